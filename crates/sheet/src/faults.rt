@@ -8,6 +8,9 @@ use crate::keys::KeyDebug;
 use crate::keys::KeyPartialEq;
 use std::fmt;
 
+// The refusal number of an output that is too short.
+const OUTPUT_TOO_SHORT: u8 = 8;
+
 // The value is no number.
 #[derive(Clone, Copy, Debug, PartialEq, Eq)]
 pub struct DigitsFault {
@@ -126,7 +129,7 @@ impl TooShort {
     pub fn number(&self) -> u8
         ensures { λ r. ⌜ r ≡ shortRefusal (now (self .entry)) ⌝ }
     {
-        8
+        OUTPUT_TOO_SHORT
     }
 }
 
