@@ -1,0 +1,6 @@
+pub mod Refusals
+pub mod Bytes
+pub mod Contents
+pub mod Nmt
+pub mod Sdo
+pub mod Signs

@@ -1,0 +1,33 @@
+ghost use mathlib.Core.Path.{_≡_};
+ghost use lib.ListN.{take};
+ghost use Rattle.frames.specs.Contents.{Made, contentOf};
+use super::Frame;
+use crate::refusal::Refusal;
+
+impl Frame {
+    // A frame from an identifier of any size and any bytes, unless they are too large or too many.
+    pub fn new(id: u32, bytes: &[u8]) -> Result<Frame, Refusal>
+        ensures { λ r. ⌜ Made id (now (bytes .entry)) r ⌝ }
+    {
+        let n = bytes.len();
+        if id > 2047 || n > 8 {
+            return Err(Refusal::Malformed);
+        }
+        let mut held = [0u8; 8];
+        held[0..n].copy_from_slice(bytes);
+        Ok(Frame { id: id as u16, len: n as u8, bytes: held })
+    }
+
+    pub fn id(&self) -> u16
+        ensures { λ r. ⌜ r ≡ contentOf (now (self .entry)) .id ⌝ }
+    {
+        self.id
+    }
+
+    // The bytes that count.
+    pub fn data(&self) -> &[u8]
+        ensures { λ r. ⌜ now r ≡ contentOf (now (self .entry)) .bytes ⌝ }
+    {
+        &self.bytes[0..self.len as usize]
+    }
+}
