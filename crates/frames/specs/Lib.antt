@@ -4,3 +4,5 @@ pub mod Contents
 pub mod Nmt
 pub mod Sdo
 pub mod Signs
+pub mod Lists
+pub mod Waiting

@@ -4,7 +4,7 @@ ghost use Rattle.frames.specs.Signs.{signBy, signIn};
 use crate::frame::Frame;
 
 // What a device says of itself in error control (CiA 301): its boot-up, or by a heartbeat its state.
-#[derive(Clone, Copy, PartialEq, Eq, Debug)]
+#[derive(Clone, Copy, PartialEq, Eq)]
 pub enum Sign {
     BootUp,
     Stopped,

@@ -4,3 +4,5 @@ pub mod frame;
 pub mod nmt;
 pub mod sdo;
 pub mod error_control;
+pub mod identified;
+pub mod queue;

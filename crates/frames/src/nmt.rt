@@ -4,7 +4,7 @@ ghost use Rattle.frames.specs.Nmt.{codeOf, commandBy, nmtContent, nmtIn, reach
 use crate::frame::Frame;
 
 // The commands of NMT node control (CiA 301).
-#[derive(Clone, Copy, PartialEq, Eq, Debug)]
+#[derive(Clone, Copy, PartialEq, Eq)]
 pub enum Command {
     Start,
     Stop,
@@ -38,7 +38,7 @@ impl Command {
 }
 
 // A command to a node, or with node 0 to every device but the master.
-#[derive(Clone, Copy, PartialEq, Eq, Debug)]
+#[derive(Clone, Copy, PartialEq, Eq)]
 pub struct NmtMessage {
     pub command: Command,
     pub node: u8,

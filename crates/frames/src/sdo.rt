@@ -4,7 +4,7 @@ ghost use Rattle.frames.specs.Sdo.{writeCode, valueBytes, requestContent, valu
 use crate::frame::Frame;
 
 // How many bytes a written value has.
-#[derive(Clone, Copy, PartialEq, Eq, Debug)]
+#[derive(Clone, Copy)]
 pub enum Size {
     One,
     Two,
@@ -13,7 +13,7 @@ pub enum Size {
 }
 
 // What a request wants: the value of an object, or a value written to it.
-#[derive(Clone, Copy, PartialEq, Eq, Debug)]
+#[derive(Clone, Copy)]
 pub enum Access {
     Read,
     // Of the value, the lowest bytes of that size are written.
@@ -21,7 +21,7 @@ pub enum Access {
 }
 
 // A request of the service data objects (CiA 301): an object of a node, by index and sub-index, is read or written.
-#[derive(Clone, Copy, PartialEq, Eq, Debug)]
+#[derive(Clone, Copy)]
 pub struct Request {
     pub node: u8,
     pub index: u16,
@@ -30,7 +30,7 @@ pub struct Request {
 }
 
 // What an answer to a request says.
-#[derive(Clone, Copy, PartialEq, Eq, Debug)]
+#[derive(Clone, Copy, PartialEq, Eq)]
 pub enum Reply {
     Abort,
     Written,

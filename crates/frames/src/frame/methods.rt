@@ -1,5 +1,5 @@
 ghost use mathlib.Core.Path.{_≡_};
-ghost use lib.ListN.{take};
+ghost use Prim.Native.Nat.{_%_};
 ghost use Rattle.frames.specs.Contents.{Made, contentOf};
 use super::Frame;
 use crate::refusal::Refusal;
@@ -22,6 +22,13 @@ impl Frame {
         ensures { λ r. ⌜ r ≡ contentOf (now (self .entry)) .id ⌝ }
     {
         self.id
+    }
+
+    // The node that the identifier's low seven bits name, as in every identifier of the predefined connection set.
+    pub fn node(&self) -> u8
+        ensures { λ r. ⌜ r ≡ contentOf (now (self .entry)) .id % 128 ⌝ }
+    {
+        (self.id % 128) as u8
     }
 
     // The bytes that count.
