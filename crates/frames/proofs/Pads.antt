@@ -20,5 +20,5 @@ pub read-back : (xs ys : List ℕ) → ys ≡ xs → take (length xs) (ys ++ dro
 read-back xs ys e = ap (take (length xs)) (copied xs ys e) ∙ take-at xs (replicate (8 - length xs) 0) (length xs) refl
 
 pub filled : (xs ys : List ℕ) → ys ≡ xs
-  → padded (take (length xs) (ys ++ drop (length xs - 0) (replicate 8 0))) ≡ ys ++ drop (length xs - 0) (replicate 8 0)
+    → padded (take (length xs) (ys ++ drop (length xs - 0) (replicate 8 0))) ≡ ys ++ drop (length xs - 0) (replicate 8 0)
 filled xs ys e = ap padded (read-back xs ys e) ∙ sym (copied xs ys e)

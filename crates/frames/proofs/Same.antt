@@ -18,7 +18,7 @@ length-padded xs = simp (length-append, length-replicate)
 pub counted : (f : Frame) → length (take (f .len) (f .bytes)) ≡ f .len
 counted f =
     let all : length (f .bytes) ≡ length (take (f .len) (f .bytes)) + (8 - length (take (f .len) (f .bytes))) =
-        ap length (sym (f .«rest_ok»)) ∙ length-padded (take (f .len) (f .bytes)) in
+    ap length (sym (f .«rest_ok»)) ∙ length-padded (take (f .len) (f .bytes)) in
     let part : length (take (f .len) (f .bytes)) ≡ min (f .len) (length (f .bytes)) = length-take (f .len) (f .bytes) in
     omega (arith, f .«len_ok»)
 

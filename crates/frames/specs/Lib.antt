@@ -6,3 +6,4 @@ pub mod Sdo
 pub mod Signs
 pub mod Lists
 pub mod Waiting
+pub mod Trials

@@ -20,8 +20,8 @@ abbrev pub commandBy : ℕ → Option Command
 commandBy c =
     cond (eqb c 0x01) (Some Start)
     (cond (eqb c 0x02) (Some Stop)
-     (cond (eqb c 0x81) (Some ResetNode)
-      (cond (eqb c 0x82) (Some ResetCommunication) None)))
+    (cond (eqb c 0x81) (Some ResetNode)
+    (cond (eqb c 0x82) (Some ResetCommunication) None)))
 
 -- An NMT command has the identifier 0 and two bytes: the command, then the node.
 abbrev pub nmtContent : NmtMessage → Content

@@ -53,9 +53,9 @@ abbrev pub valueIn : ℕ → List ℕ → Option ℕ
 valueIn c rest =
     cond (eqb (length rest) 4)
     (cond (eqb c 0x4F) (Some (number (take 1 rest)))
-     (cond (eqb c 0x4B) (Some (number (take 2 rest)))
-      (cond (eqb c 0x47) (Some (number (take 3 rest)))
-       (cond (eqb c 0x43) (Some (number (take 4 rest))) None))))
+    (cond (eqb c 0x4B) (Some (number (take 2 rest)))
+    (cond (eqb c 0x47) (Some (number (take 3 rest)))
+    (cond (eqb c 0x43) (Some (number (take 4 rest))) None))))
     None
 
 abbrev toReply : Option ℕ → Option Reply

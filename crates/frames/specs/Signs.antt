@@ -13,8 +13,8 @@ abbrev pub signBy : ℕ → Option Sign
 signBy c =
     cond (eqb c 0x00) (Some BootUp)
     (cond (eqb c 0x04) (Some Stopped)
-     (cond (eqb c 0x05) (Some Operational)
-      (cond (eqb c 0x7F) (Some PreOperational) None)))
+    (cond (eqb c 0x05) (Some Operational)
+    (cond (eqb c 0x7F) (Some PreOperational) None)))
 
 abbrev inBytes : List ℕ → Option Sign
 inBytes [] = None

@@ -48,7 +48,11 @@ impl NmtMessage {
     pub fn frame(self) -> Frame
         ensures { λ r. ⌜ contentOf r ≡ nmtContent self ⌝ }
     {
-        Frame { id: 0, len: 2, bytes: [self.command.code(), self.node, 0, 0, 0, 0, 0, 0] }
+        Frame {
+            id: 0,
+            len: 2,
+            bytes: [self.command.code(), self.node, 0, 0, 0, 0, 0, 0],
+        }
     }
 
     // What a frame commands, if anything.
@@ -62,7 +66,10 @@ impl NmtMessage {
             return None;
         };
         let command = Command::from_code(*code)?;
-        Some(NmtMessage { command, node: *node })
+        Some(NmtMessage {
+            command,
+            node: *node,
+        })
     }
 
     // Whether the command names or covers the device `node` in a network whose master has the node `master`.

@@ -90,7 +90,11 @@ impl Request {
         };
         let [low, high] = self.index.to_le_bytes();
         let [a, b, c, d] = value;
-        Frame { id: 0x600 + self.node as u16, len: 8, bytes: [command, low, high, self.sub, a, b, c, d] }
+        Frame {
+            id: 0x600 + self.node as u16,
+            len: 8,
+            bytes: [command, low, high, self.sub, a, b, c, d],
+        }
     }
 
     // What a frame says in answer to this request, if it fits it.

@@ -15,7 +15,11 @@ impl Frame {
         }
         let mut held = [0u8; 8];
         held[0..n].copy_from_slice(bytes);
-        Ok(Frame { id: id as u16, len: n as u8, bytes: held })
+        Ok(Frame {
+            id: id as u16,
+            len: n as u8,
+            bytes: held,
+        })
     }
 
     pub fn id(&self) -> u16

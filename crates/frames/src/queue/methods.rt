@@ -16,7 +16,11 @@ impl<'a, T: Identified + Copy> Queue<'a, T> {
         if n == 0 || n > 64 {
             return Err(Refusal::Memory);
         }
-        Ok(Queue { slots, head: 0, len: 0 })
+        Ok(Queue {
+            slots,
+            head: 0,
+            len: 0,
+        })
     }
 
     // How many more elements can wait.
@@ -37,7 +41,11 @@ impl<'a, T: Identified + Copy> Queue<'a, T> {
             return false;
         }
         let ahead = places - self.head;
-        let at = if self.len < ahead { self.head + self.len } else { self.len - ahead };
+        let at = if self.len < ahead {
+            self.head + self.len
+        } else {
+            self.len - ahead
+        };
         self.slots[at] = x;
         self.len += 1;
         true
