@@ -1,0 +1,4 @@
+// Ports: where frames wait for the bus. All kinds have one meaning.
+pub mod gap_port;
+pub mod port;
+pub mod ring_port;
