@@ -1,2 +1,6 @@
 pub mod Meaning
 pub mod Gaps
+pub mod Turns
+pub mod Mail
+pub mod Cases
+pub mod Mails

@@ -1,4 +1,5 @@
 // Ports: where frames wait for the bus. All kinds have one meaning.
 pub mod gap_port;
+pub mod mailbox;
 pub mod port;
 pub mod ring_port;
