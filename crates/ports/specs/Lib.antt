@@ -4,3 +4,4 @@ pub mod Turns
 pub mod Mail
 pub mod Cases
 pub mod Mails
+pub mod Handing
