@@ -21,26 +21,26 @@ module _ (pause gap most : ℕ) (there : List Frame) where
 
   -- a frame that is given goes over
   pub goes-on : (fs : List Frame) (f : Frame) → Some f ≡ given fs pause → accepts most there ≡ true
-    → handed fs pause gap most there ≡ handed (kept fs pause) (paused fs pause gap) gap most (added most there f)
+      → handed fs pause gap most there ≡ handed (kept fs pause) (paused fs pause gap) gap most (added most there f)
   goes-on [] f e a = no-frame f (sym e)
   goes-on (x ∷ xs) f e a = turn (held x pause) (accepts most there) e a
     where
       turn : (b a : Bool) → Some f ≡ cond b None (Some x) → a ≡ true
-        → cond (a && not b) (handed xs (pauseAfter x pause gap) gap most (there ++ x ∷ [])) (stays (x ∷ xs))
-        ≡ handed (cond b (x ∷ xs) xs) (cond b pause (pauseAfter x pause gap)) gap most (cond a (there ++ f ∷ []) there)
+          → cond (a && not b) (handed xs (pauseAfter x pause gap) gap most (there ++ x ∷ [])) (stays (x ∷ xs))
+          ≡ handed (cond b (x ∷ xs) xs) (cond b pause (pauseAfter x pause gap)) gap most (cond a (there ++ f ∷ []) there)
       turn true a e h = no-frame f (sym e)
       turn false true e h = let same : x ≡ f = cc in ap (λ y. handed xs (pauseAfter x pause gap) gap most (there ++ y ∷ [])) same
       turn false false e h = let z : _≡_ {A = ℕ} 0 1 = cc in absurd (omega arith)
 
   -- none given: all stays
   pub held-back : (fs : List Frame) → None ≡ given fs pause
-    → handed fs pause gap most there ≡ record { from = kept fs pause; pause = paused fs pause gap; to = there }
+      → handed fs pause gap most there ≡ record { from = kept fs pause; pause = paused fs pause gap; to = there }
   held-back [] e = refl
   held-back (x ∷ xs) e = turn (accepts most there) (held x pause) e
     where
       turn : (a b : Bool) → None ≡ cond b None (Some x)
-        → cond (a && not b) (handed xs (pauseAfter x pause gap) gap most (there ++ x ∷ [])) (stays (x ∷ xs))
-        ≡ record { from = cond b (x ∷ xs) xs; pause = cond b pause (pauseAfter x pause gap); to = there }
+          → cond (a && not b) (handed xs (pauseAfter x pause gap) gap most (there ++ x ∷ [])) (stays (x ∷ xs))
+          ≡ record { from = cond b (x ∷ xs) xs; pause = cond b pause (pauseAfter x pause gap); to = there }
       turn true true e = refl
       turn false true e = refl
       turn a false e = no-frame x e

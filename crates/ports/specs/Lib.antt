@@ -5,3 +5,4 @@ pub mod Mail
 pub mod Cases
 pub mod Mails
 pub mod Handing
+pub mod Trials

@@ -1,8 +1,8 @@
 ghost use mathlib.Core.Path.{_≡_};
 ghost use Prim.Native.Nat.{max};
 ghost use Rattle.ports.specs.Gaps.{gapTicks, GapTrials};
-use frames::frame::Frame;
 use super::port::Port;
+use frames::frame::Frame;
 
 // Any port, with a gap of its own between NMT commands. The gap that holds is the greater of its own and the one below.
 #[derive(Drop)]
@@ -27,7 +27,11 @@ impl<P: Port> GapPort<P> {
         ensures gap { λ r. ⌜ r .gap ≡ gapTicks inhibit ⌝ }
         ensures pause { λ r. ⌜ r .pause ≡ 0 ⌝ }
     {
-        GapPort { below, gap: gap_ticks(inhibit), pause: 0 }
+        GapPort {
+            below,
+            gap: gap_ticks(inhibit),
+            pause: 0,
+        }
     }
 }
 

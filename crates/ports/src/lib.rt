@@ -4,3 +4,4 @@ pub mod hand_over;
 pub mod mailbox;
 pub mod port;
 pub mod ring_port;
+pub mod trials;

@@ -1,9 +1,9 @@
 ghost use Rattle.frames.proofs.QueueLaws.{queue-some, queue-within};
 ghost use Rattle.frames.specs.Waiting.{waiting as queueWaiting, most as queueMost};
+use super::port::Port;
 use frames::frame::Frame;
 use frames::identified::FrameIdentified;
 use frames::queue::Queue;
-use super::port::Port;
 
 // The ring port: a queue of frames in lent memory, with no gap between commands.
 pub impl<'a> Port for Queue<'a, Frame> as RingPort {

@@ -5,16 +5,19 @@ ghost use Prim.Native.Nat.{_-_};
 ghost use lib.ListN.{length};
 ghost use Rattle.ports.specs.Mail.{mailWaiting};
 ghost use Rattle.ports.specs.Mails.{mail-within};
-use frames::frame::Frame;
 use super::Mailbox;
 use super::Slot;
 use crate::port::Port;
+use frames::frame::Frame;
 
 // A slot whose turn is one nearer.
 fn nearer(slot: Slot) -> Slot
     ensures { λ r. ⌜ (r .turn ≡ slot .turn - 1) × (r .frame ≡ slot .frame) ⌝ }
 {
-    Slot { turn: slot.turn.saturating_sub(1), frame: slot.frame }
+    Slot {
+        turn: slot.turn.saturating_sub(1),
+        frame: slot.frame,
+    }
 }
 
 impl Mailbox {
@@ -22,8 +25,15 @@ impl Mailbox {
     pub fn new(blank: Frame) -> Mailbox
         ensures { λ r. ⌜ mailWaiting r ≡ [] ⌝ }
     {
-        let free = Slot { turn: 0, frame: blank };
-        Mailbox { a: free, b: free, c: free }
+        let free = Slot {
+            turn: 0,
+            frame: blank,
+        };
+        Mailbox {
+            a: free,
+            b: free,
+            c: free,
+        }
     }
 
     // How many frames wait: as many as the highest turn.

@@ -19,13 +19,14 @@ loop-from-again g c =
     let from = c .loop-from .from in
     let to = c .loop-from .to in
     let room : accepts (g .Q·Port .most to) (g .Q·Port .waiting to) ≡ true = lt-ltb (length (g .Q·Port .waiting to)) (g .Q·Port .most to) (omega arith) in
-    let turn = goes-on (g .P·Port .pause from) (g .P·Port .gap from) (g .Q·Port .most to) (g .Q·Port .waiting to) (g .P·Port .waiting from) (c .in-Some .frame) (sym (c .in-Some .is) ∙ c .take .ensures .answer) room in
-    ( like _ _ _ _ _ _ _ _ _ _ (c .take .ensures .list) (c .take .ensures .pauses) (c .take .ensures .gap-same) (c .put .ensures .most-same) (c .put .ensures .list) ∙ sym turn ∙ c .loop-from .inv .0
-    , c .take .ensures .most-same ∙ c .loop-from .inv .1
-    , c .take .ensures .gap-same ∙ c .loop-from .inv .2
-    , c .put .ensures .pause-same ∙ c .loop-from .inv .3
-    , c .put .ensures .most-same ∙ c .loop-from .inv .4
-    , c .put .ensures .gap-same ∙ c .loop-from .inv .5 )
+    let turn = goes-on (g .P·Port .pause from) (g .P·Port .gap from) (g .Q·Port .most to) (g .Q·Port .waiting to) (g .P·Port .waiting from) (c .in-Some .frame) (sym (c .in-Some .is) ∙ c .take .ensures .answer) room in (
+      like _ _ _ _ _ _ _ _ _ _ (c .take .ensures .list) (c .take .ensures .pauses) (c .take .ensures .gap-same) (c .put .ensures .most-same) (c .put .ensures .list) ∙ sym turn ∙ c .loop-from .inv .0,
+      c .take .ensures .most-same ∙ c .loop-from .inv .1,
+      c .take .ensures .gap-same ∙ c .loop-from .inv .2,
+      c .put .ensures .pause-same ∙ c .loop-from .inv .3,
+      c .put .ensures .most-same ∙ c .loop-from .inv .4,
+      c .put .ensures .gap-same ∙ c .loop-from .inv .5,
+    )
 
 pub returns-after-loop-from : need.returns-after-loop-from
 returns-after-loop-from g c =
