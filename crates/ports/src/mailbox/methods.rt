@@ -4,7 +4,7 @@ ghost use native.Mathlib.Omega.{arith};
 ghost use Prim.Native.Nat.{_-_};
 ghost use lib.ListN.{length};
 ghost use Rattle.ports.specs.Mail.{mailWaiting};
-ghost use Rattle.ports.specs.Mails.{mail-within};
+ghost use Rattle.ports.specs.MailLaws.{mail-within};
 use super::Mailbox;
 use super::Slot;
 use crate::port::Port;

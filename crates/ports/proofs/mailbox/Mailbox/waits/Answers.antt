@@ -1,5 +1,5 @@
 use native.Mathlib.Omega.{arith}
-use Rattle.ports.specs.Mails.{highest}
+use Rattle.ports.specs.MailLaws.{highest}
 use Rattle.ports.proofs.mailbox.Mailbox.waits.Needs as need
 
 pub returns : need.returns

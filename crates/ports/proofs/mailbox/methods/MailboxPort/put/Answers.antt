@@ -1,8 +1,8 @@
 use mathlib.Core.Path.{_≡_, refl, sym, _∙_}
 use Prim.Native.Nat.{max}
 use borrow.Author.Needs.{needs}
-use Rattle.ports.specs.Mails.{highest}
-use Rattle.ports.proofs.Lowered.{third-fair, third-added}
+use Rattle.ports.specs.MailLaws.{highest}
+use Rattle.ports.proofs.MailSteps.{third-fair, third-added}
 use Rattle.ports.proofs.mailbox.methods.MailboxPort.put.Needs as need
 
 pub ghost-self-else-self-eq0-2 : need.ghost-self-else-self-eq0-2
