@@ -22,17 +22,20 @@ counted f =
     let part : length (take (f .len) (f .bytes)) ≡ min (f .len) (length (f .bytes)) = length-take (f .len) (f .bytes) in
     omega (arith, f .«len_ok»)
 
+-- frames with equal fields are the same value: what else a frame holds are proofs, and a fact has one proof at most
+pub same-fields : (f g : Frame) → f .id ≡ g .id → f .len ≡ g .len → f .bytes ≡ g .bytes → f ≡ g
+same-fields f g ids lens places = λ i. record {
+  id = ids i;
+  len = lens i;
+  bytes = places i;
+  «id_ok» = isProp→PathP (λ j. ids j ≤ 2047) (λ j. le-prop) (f .«id_ok») (g .«id_ok») i;
+  «len_ok» = isProp→PathP (λ j. lens j ≤ 8) (λ j. le-prop) (f .«len_ok») (g .«len_ok») i;
+  «rest_ok» = isProp→PathP (λ j. padded (take (lens j) (places j)) ≡ places j) (λ j. List·isSet ℕ-set _ _) (f .«rest_ok») (g .«rest_ok») i;
+}
+
 pub same-value : (f g : Frame) → contentOf f ≡ contentOf g → f ≡ g
 same-value f g e =
-    let ids : f .id ≡ g .id = ap (λ c. c .id) e in
     let datas : take (f .len) (f .bytes) ≡ take (g .len) (g .bytes) = ap (λ c. c .bytes) e in
-    let lens : f .len ≡ g .len = sym (counted f) ∙ ap length datas ∙ counted g in
-    let places : f .bytes ≡ g .bytes = sym (f .«rest_ok») ∙ ap padded datas ∙ g .«rest_ok» in
-    λ i. record {
-      id = ids i;
-      len = lens i;
-      bytes = places i;
-      «id_ok» = isProp→PathP (λ j. ids j ≤ 2047) (λ j. le-prop) (f .«id_ok») (g .«id_ok») i;
-      «len_ok» = isProp→PathP (λ j. lens j ≤ 8) (λ j. le-prop) (f .«len_ok») (g .«len_ok») i;
-      «rest_ok» = isProp→PathP (λ j. padded (take (lens j) (places j)) ≡ places j) (λ j. List·isSet ℕ-set _ _) (f .«rest_ok») (g .«rest_ok») i;
-    }
+    same-fields f g (ap (λ c. c .id) e)
+    (sym (counted f) ∙ ap length datas ∙ counted g)
+    (sym (f .«rest_ok») ∙ ap padded datas ∙ g .«rest_ok»)

@@ -1,4 +1,5 @@
 ghost use mathlib.Core.Path.{_≡_};
+ghost use Rattle.std.specs.declared.option.Option.the-variants.{Some};
 ghost use Rattle.frames.specs.Contents.{contentOf};
 ghost use Rattle.frames.specs.Nmt.{codeOf, commandBy, nmtContent, nmtIn, reaches};
 use crate::frame::Frame;
@@ -46,7 +47,8 @@ pub struct NmtMessage {
 
 impl NmtMessage {
     pub fn frame(self) -> Frame
-        ensures { λ r. ⌜ contentOf r ≡ nmtContent self ⌝ }
+        ensures content { λ r. ⌜ contentOf r ≡ nmtContent self ⌝ }
+        ensures read_back { λ r. ⌜ nmtIn (contentOf r) ≡ Some self ⌝ }
     {
         Frame {
             id: 0,

@@ -1,5 +1,6 @@
 ghost use mathlib.Core.Path.{_≡_};
 ghost use Prim.Native.Nat.{_%_};
+ghost use Rattle.std.specs.Orderings.{Decides};
 ghost use Rattle.frames.specs.Contents.{Made, contentOf};
 use super::Frame;
 use crate::refusal::Refusal;
@@ -42,3 +43,17 @@ impl Frame {
         &self.bytes[0..self.len as usize]
     }
 }
+
+// Frames are equal exactly if they are the same value.
+pub impl PartialEq<Frame> for Frame as FramePartialEq {
+    ghost equals = { λ f g r. Decides r (f ≡ g) };
+
+    fn eq(&self, other: &Frame) -> bool {
+        if self.id != other.id || self.len != other.len {
+            return false;
+        }
+        self.bytes == other.bytes
+    }
+}
+
+pub impl Eq for Frame as FrameEq {}
