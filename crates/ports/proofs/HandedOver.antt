@@ -9,7 +9,7 @@ use Rattle.std.specs.declared.option.Option.{Option}
 use Rattle.std.specs.declared.option.Option.the-variants.{Some, None}
 use Rattle.frames.specs.declared.frame.Frame.{Frame}
 use Rattle.frames.specs.Lists.{accepts, added}
-use Rattle.ports.specs.Meaning.{held, pauseAfter, given, kept, paused}
+use Rattle.ports.specs.Meaning.{held as holds, pauseAfter, given, kept, paused}
 use Rattle.ports.specs.Handing.{Handed, handed}
 
 no-frame : {X : Type 0} (f : Frame) → _≡_ {A = Option Frame} None (Some f) → X
@@ -23,7 +23,7 @@ module _ (pause gap most : ℕ) (there : List Frame) where
   pub goes-on : (fs : List Frame) (f : Frame) → Some f ≡ given fs pause → accepts most there ≡ true
       → handed fs pause gap most there ≡ handed (kept fs pause) (paused fs pause gap) gap most (added most there f)
   goes-on [] f e a = no-frame f (sym e)
-  goes-on (x ∷ xs) f e a = turn (held x pause) (accepts most there) e a
+  goes-on (x ∷ xs) f e a = turn (holds x pause) (accepts most there) e a
     where
       turn : (b a : Bool) → Some f ≡ cond b None (Some x) → a ≡ true
           → cond (a && not b) (handed xs (pauseAfter x pause gap) gap most (there ++ x ∷ [])) (stays (x ∷ xs))
@@ -36,7 +36,7 @@ module _ (pause gap most : ℕ) (there : List Frame) where
   pub held-back : (fs : List Frame) → None ≡ given fs pause
       → handed fs pause gap most there ≡ record { from = kept fs pause; pause = paused fs pause gap; to = there }
   held-back [] e = refl
-  held-back (x ∷ xs) e = turn (accepts most there) (held x pause) e
+  held-back (x ∷ xs) e = turn (accepts most there) (holds x pause) e
     where
       turn : (a b : Bool) → None ≡ cond b None (Some x)
           → cond (a && not b) (handed xs (pauseAfter x pause gap) gap most (there ++ x ∷ [])) (stays (x ∷ xs))
@@ -50,13 +50,17 @@ module _ (pause gap most : ℕ) (there : List Frame) where
   full [] e = refl
   full (x ∷ xs) e = rw e
 
+-- from equal parts
+pub held : {fs fs′ : List Frame} {p p′ : ℕ} {ts : List Frame} → fs ≡ fs′ → p ≡ p′ → _≡_ {A = Handed} (record { from = fs; pause = p; to = ts }) (record { from = fs′; pause = p′; to = ts })
+held {ts = ts} a b = λ i. record { from = a i; pause = b i; to = ts }
+
 pub like : (fs fs′ : List Frame) (p p′ g g′ m m′ : ℕ) (ts ts′ : List Frame) → fs ≡ fs′ → p ≡ p′ → g ≡ g′ → m ≡ m′ → ts ≡ ts′ → handed fs p g m ts ≡ handed fs′ p′ g′ m′ ts′
 like fs fs′ p p′ g g′ m m′ ts ts′ a b c d e = λ i. handed (a i) (b i) (c i) (d i) (e i)
 
 -- one frame less waits
 pub fewer : (fs : List Frame) (pause : ℕ) (f : Frame) → Some f ≡ given fs pause → length (kept fs pause) < length fs
 fewer [] pause f e = no-frame f (sym e)
-fewer (x ∷ xs) pause f e = turn (held x pause) e
+fewer (x ∷ xs) pause f e = turn (holds x pause) e
   where
     turn : (b : Bool) → Some f ≡ cond b None (Some x) → length (cond b (x ∷ xs) xs) < length (x ∷ xs)
     turn true e = no-frame f (sym e)

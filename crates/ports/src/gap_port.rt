@@ -62,7 +62,7 @@ pub impl<P: Port> Port for GapPort<P> as GapIsPort {
 
     fn take(&mut self) -> Option<Frame> {
         if self.pause > 0 {
-            if let Some(frame) = self.below.first() {
+            if let Some(frame) = self.first() {
                 if frame.id() == 0 {
                     return None;
                 }

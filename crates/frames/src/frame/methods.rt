@@ -1,5 +1,6 @@
 ghost use mathlib.Core.Path.{_≡_};
-ghost use Prim.Native.Nat.{_%_};
+ghost use Prim.Native.Nat.{_%_, _≤_};
+ghost use lib.ListN.{length};
 ghost use Rattle.std.specs.Orderings.{Decides};
 ghost use Rattle.frames.specs.Contents.{Made, contentOf};
 use super::Frame;
@@ -24,7 +25,8 @@ impl Frame {
     }
 
     pub fn id(&self) -> u16
-        ensures { λ r. ⌜ r ≡ contentOf (now (self .entry)) .id ⌝ }
+        ensures value { λ r. ⌜ r ≡ contentOf (now (self .entry)) .id ⌝ }
+        ensures legal { λ r. ⌜ r ≤ 2047 ⌝ }
     {
         self.id
     }
@@ -38,7 +40,8 @@ impl Frame {
 
     // The bytes that count.
     pub fn data(&self) -> &[u8]
-        ensures { λ r. ⌜ now r ≡ contentOf (now (self .entry)) .bytes ⌝ }
+        ensures value { λ r. ⌜ now r ≡ contentOf (now (self .entry)) .bytes ⌝ }
+        ensures legal { λ r. ⌜ length (now r) ≤ 8 ⌝ }
     {
         &self.bytes[0..self.len as usize]
     }

@@ -4,8 +4,7 @@ use native.Mathlib.Omega.{arith}
 use lib.ListN.{length}
 use Rattle.std.proofs.shelf.Tests.{lt-ltb, le-ltb}
 use Rattle.frames.specs.Lists.{accepts}
-use Rattle.ports.specs.Handing.{Handed}
-use Rattle.ports.proofs.HandedOver.{goes-on, held-back, full, fewer, like}
+use Rattle.ports.proofs.HandedOver.{goes-on, held-back, full, fewer, like, held}
 use Rattle.ports.proofs.hand_over.hand_over.Needs as need
 
 pub loop-from-less : need.loop-from-less
@@ -33,13 +32,10 @@ returns-after-loop-from g c =
     let from = c .loop-from .from in
     let to = c .loop-from .to in
     let none : accepts (g .Q·Port .most to) (g .Q·Port .waiting to) ≡ false = le-ltb (length (g .Q·Port .waiting to)) (g .Q·Port .most to) (omega arith) in
-    let end = sym (full (g .P·Port .pause from) (g .P·Port .gap from) (g .Q·Port .most to) (g .Q·Port .waiting to) (g .P·Port .waiting from) none) ∙ c .loop-from .inv .0 in
     record {
-      from = ap (λ (h : Handed). h .from) end;
-      from-pause = ap (λ (h : Handed). h .pause) end;
+      handed = sym (full (g .P·Port .pause from) (g .P·Port .gap from) (g .Q·Port .most to) (g .Q·Port .waiting to) (g .P·Port .waiting from) none) ∙ c .loop-from .inv .0;
       from-most = c .loop-from .inv .1;
       from-gap = c .loop-from .inv .2;
-      to = ap (λ (h : Handed). h .to) end;
       to-pause = c .loop-from .inv .3;
       to-most = c .loop-from .inv .4;
       to-gap = c .loop-from .inv .5;
@@ -49,13 +45,11 @@ pub returns-in-rest : need.returns-in-rest
 returns-in-rest g c =
     let from = c .loop-from .from in
     let to = c .loop-from .to in
-    let end = sym (held-back (g .P·Port .pause from) (g .P·Port .gap from) (g .Q·Port .most to) (g .Q·Port .waiting to) (g .P·Port .waiting from) (sym (c .in-rest .is) ∙ c .take .ensures .answer)) ∙ c .loop-from .inv .0 in
+    let end = held-back (g .P·Port .pause from) (g .P·Port .gap from) (g .Q·Port .most to) (g .Q·Port .waiting to) (g .P·Port .waiting from) (sym (c .in-rest .is) ∙ c .take .ensures .answer) in
     record {
-      from = c .take .ensures .list ∙ ap (λ (h : Handed). h .from) end;
-      from-pause = c .take .ensures .pauses ∙ ap (λ (h : Handed). h .pause) end;
+      handed = held (c .take .ensures .list) (c .take .ensures .pauses) ∙ sym end ∙ c .loop-from .inv .0;
       from-most = c .take .ensures .most-same ∙ c .loop-from .inv .1;
       from-gap = c .take .ensures .gap-same ∙ c .loop-from .inv .2;
-      to = ap (λ (h : Handed). h .to) end;
       to-pause = c .loop-from .inv .3;
       to-most = c .loop-from .inv .4;
       to-gap = c .loop-from .inv .5;
