@@ -1,7 +1,7 @@
 -- One turn of a handing over, and its two ends. Assumes nothing.
 use mathlib.Core.Path.{_≡_, refl, sym, ap, _∙_}
 use mathlib.Core.Bool.{Bool, true, false, cond, not, _&&_}
-use mathlib.Core.List.{List, [], _∷_, _++_}
+use mathlib.Core.List.{List, [], _∷_, _++_, append-assoc}
 use Prim.Native.Nat.{ℕ, suc, _<_}
 use native.Mathlib.Omega.{arith}
 use lib.ListN.{length}
@@ -65,3 +65,21 @@ fewer (x ∷ xs) pause f e = turn (holds x pause) e
     turn : (b : Bool) → Some f ≡ cond b None (Some x) → length (cond b (x ∷ xs) xs) < length (x ∷ xs)
     turn true e = no-frame f (sym e)
     turn false e = omega arith
+
+-- what waits there and then here is what waited there and then here before
+pub in-order : (fs : List Frame) (pause gap most : ℕ) (there : List Frame)
+    → handed fs pause gap most there .to ++ handed fs pause gap most there .from ≡ there ++ fs
+in-order [] pause gap most there = refl
+in-order (f ∷ fs) pause gap most there =
+    either (accepts most there && not (holds f pause))
+    (in-order fs (pauseAfter f pause gap) gap most (there ++ f ∷ []) ∙ append-assoc there (f ∷ []) fs)
+  where
+    gone : Handed
+    gone = handed fs (pauseAfter f pause gap) gap most (there ++ f ∷ [])
+
+    here : Handed
+    here = record { from = f ∷ fs; pause = pause; to = there }
+
+    either : (b : Bool) → gone .to ++ gone .from ≡ there ++ f ∷ fs → cond b gone here .to ++ cond b gone here .from ≡ there ++ f ∷ fs
+    either true e = e
+    either false e = refl

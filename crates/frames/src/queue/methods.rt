@@ -59,7 +59,8 @@ impl<'a, T: Identified + Copy> Queue<'a, T> {
             return None;
         }
         let slots: &[T] = self.slots;
-        Some(slots[self.head])
+        let at = self.head;
+        Some(slots[at])
     }
 
     // Removes the first waiting element and answers it.

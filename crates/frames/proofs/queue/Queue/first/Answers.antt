@@ -7,4 +7,4 @@ use Rattle.frames.proofs.queue.Queue.first.Needs as need
 pub returns : need.returns
 returns g c =
     let s = c .args .self .now in
-    ap Some (c .index-slots-self .is) ∙ sym (first-turned (s .slots .now) (s .head) (s .len) (c .index-slots-self .result) (s .«head_ok») (omega arith))
+    ap Some (c .index-slots-at .is) ∙ sym (first-turned (s .slots .now) (s .head) (s .len) (c .index-slots-at .result) (s .«head_ok») (omega arith))
