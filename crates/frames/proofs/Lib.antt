@@ -1,0 +1,4 @@
+pub mod Pads
+pub mod Same
+pub mod Rings
+pub mod QueueLaws
