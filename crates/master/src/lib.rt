@@ -1,0 +1,5 @@
+// The NMT master: the checks of a slave's try and the entry that the master keeps of each slave.
+pub mod checks;
+pub mod stage;
+pub mod table;
+pub mod types;
