@@ -1,3 +1,5 @@
 pub mod Checks
+pub mod Network
 pub mod Step
 pub mod Table
+pub mod Views

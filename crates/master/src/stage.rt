@@ -4,11 +4,13 @@ ghost use mathlib.Core.Bool.{cond, not, _&&_};
 ghost use Rattle.sheet.specs.Views.{slaveOf};
 ghost use Rattle.master.specs.Step.{wordOf, runs, to, saying, quietly, missedBy, lostBy, passedBy, goneOn, bootedBy, onBeat, decided, stepped, resetPut, requestPut, startPut, isPassed, isCleared, isSpared, mayRun, dutyOf};
 ghost use Rattle.master.specs.Checks.{verdictOf};
+ghost use Rattle.master.specs.Table.{changeBy};
 ghost use Rattle.master.specs.declared.types.Stage.the-variants as stages;
 use crate::checks::following;
 use crate::checks::unanswered;
 use crate::checks::verdict;
 use crate::types::Brought;
+use crate::types::Change;
 use crate::types::Check;
 use crate::types::Duty;
 use crate::types::Entry;
@@ -327,6 +329,20 @@ pub(crate) fn step(was: Entry, c: &Slave, input: Input) -> Stepped
             }
         }
         (_, Input::Tick) => quiet(e),
+    }
+}
+
+// A keep-alive slave begins at check 1.
+pub(crate) fn first_entry(e: Entry, c: &Slave) -> Entry
+    ensures { λ r. ⌜ r ≡ changeBy Change.Begin (slaveOf (now (c .entry))) e ⌝ }
+{
+    if c.keep {
+        Entry {
+            stage: Stage::Ask { check: Check::Kind },
+            ..e
+        }
+    } else {
+        e
     }
 }
 

@@ -2,14 +2,15 @@
 ghost use mathlib.Core.Path.{_≡_};
 ghost use lib.ListN.{replicate};
 ghost use Rattle.sheet.specs.Views.{slaveOf};
-ghost use Rattle.master.specs.Step.{stepped, resetPut, requestPut, startPut};
-ghost use Rattle.master.specs.Table.{fresh, entryOf, changed, begun};
+ghost use Rattle.master.specs.Step.{stepped};
+ghost use Rattle.master.specs.Table.{fresh, entryOf, changed, applied};
+use crate::stage::first_entry;
 use crate::stage::request_put;
 use crate::stage::reset_put;
 use crate::stage::start_put;
 use crate::stage::step;
 use crate::types::Brought;
-use crate::types::Check;
+use crate::types::Change;
 use crate::types::Entry;
 use crate::types::Input;
 use crate::types::Stage;
@@ -42,26 +43,10 @@ impl Table {
         self.entries[c.node as usize - 1]
     }
 
-    fn change(&mut self, c: &Slave, e: Entry)
+    fn replace(&mut self, c: &Slave, e: Entry)
         ensures { λ _. ⌜ now (self .exit) .entries ≡ changed (now (self .entry) .entries) (slaveOf (now (c .entry))) e ⌝ }
     {
         self.entries[c.node as usize - 1] = e;
-    }
-
-    // A keep-alive slave begins at check 1.
-    pub(crate) fn begin(&mut self, c: &Slave)
-        ensures { λ _. ⌜ now (self .exit) .entries ≡ changed (now (self .entry) .entries) (slaveOf (now (c .entry))) (begun (slaveOf (now (c .entry))) (entryOf (now (self .entry) .entries) (slaveOf (now (c .entry))))) ⌝ }
-    {
-        let e = self.at(c);
-        let first = if c.keep {
-            Entry {
-                stage: Stage::Ask { check: Check::Kind },
-                ..e
-            }
-        } else {
-            e
-        };
-        self.change(c, first);
     }
 
     // One slave's step; the others stay.
@@ -70,31 +55,21 @@ impl Table {
         ensures brought { λ r. ⌜ r ≡ stepped (slaveOf (now (c .entry))) (entryOf (now (self .entry) .entries) (slaveOf (now (c .entry)))) input .brought ⌝ }
     {
         let stepped = step(self.at(c), c, input);
-        self.change(c, stepped.entry);
+        self.replace(c, stepped.entry);
         stepped.brought
     }
 
-    // A reset that names or covers the slave is put.
-    pub(crate) fn reset(&mut self, c: &Slave)
-        ensures { λ _. ⌜ now (self .exit) .entries ≡ changed (now (self .entry) .entries) (slaveOf (now (c .entry))) (resetPut (entryOf (now (self .entry) .entries) (slaveOf (now (c .entry))))) ⌝ }
+    // Another change of one slave's entry; the others stay.
+    pub(crate) fn apply(&mut self, c: &Slave, change: Change)
+        ensures { λ _. ⌜ now (self .exit) .entries ≡ applied change (now (self .entry) .entries) (slaveOf (now (c .entry))) ⌝ }
     {
         let e = self.at(c);
-        self.change(c, reset_put(e));
-    }
-
-    // The request of its check is put.
-    pub(crate) fn request(&mut self, c: &Slave, wait: u16)
-        ensures { λ _. ⌜ now (self .exit) .entries ≡ changed (now (self .entry) .entries) (slaveOf (now (c .entry))) (requestPut wait (entryOf (now (self .entry) .entries) (slaveOf (now (c .entry))))) ⌝ }
-    {
-        let e = self.at(c);
-        self.change(c, request_put(e, wait));
-    }
-
-    // A start that names or covers it is put.
-    pub(crate) fn start(&mut self, c: &Slave)
-        ensures { λ _. ⌜ now (self .exit) .entries ≡ changed (now (self .entry) .entries) (slaveOf (now (c .entry))) (startPut (entryOf (now (self .entry) .entries) (slaveOf (now (c .entry))))) ⌝ }
-    {
-        let e = self.at(c);
-        self.change(c, start_put(e));
+        let next = match change {
+            Change::Begin => first_entry(e, c),
+            Change::Reset => reset_put(e),
+            Change::Request(wait) => request_put(e, wait),
+            Change::Start => start_put(e),
+        };
+        self.replace(c, next);
     }
 }

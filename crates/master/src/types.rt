@@ -152,3 +152,56 @@ pub enum Duty {
     Request(Check),
     Start,
 }
+
+// What is done to an entry besides its steps.
+#[derive(Clone, Copy)]
+pub enum Change {
+    // a keep-alive slave begins at check 1
+    Begin,
+    // a reset that names or covers the slave is put
+    Reset,
+    // the request of its check is put; so many ticks are there for the answer
+    Request(u16),
+    // a start that names or covers it is put
+    Start,
+}
+
+// What slaves are counted for.
+#[derive(Clone, Copy)]
+pub enum Quality {
+    Cleared,
+    Passed,
+    Spared,
+    // its node is not above the one that was served last
+    Served,
+}
+
+// A reset of all nodes, at once or one by one.
+#[derive(Clone, Copy)]
+pub enum Sweep {
+    Over,
+    // nothing is put yet
+    Begun { command: Command },
+    // one by one; `passed` is the last node that was come to
+    Singles { command: Command, passed: u8 },
+}
+
+#[derive(Clone, Copy)]
+pub enum Phase {
+    Running,
+    StopDue,
+    Halted,
+}
+
+// What a work would put.
+#[derive(Clone, Copy)]
+pub enum Plan {
+    Nothing,
+    Stop,
+    ResetAll { command: Command },
+    ResetOne { command: Command, node: u8 },
+    // a duty to the slave of this node
+    Serve { node: u8, duty: Duty },
+    // the start of all, at the turn of the slave of this node
+    StartAll { node: u8 },
+}
