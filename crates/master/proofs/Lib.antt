@@ -1,3 +1,4 @@
+pub mod Planning
 pub mod Setting
 pub mod Ticking
 pub mod Walking

@@ -1,7 +1,7 @@
 -- The state of a master without its port, and what the calls make of it.
 use mathlib.Core.Bool.{Bool, true, false, cond, not, _&&_, _||_}
 use mathlib.Core.List.{List, [], _∷_, _++_}
-use Prim.Native.Nat.{ℕ, zero, suc, min, _+_, _-_}
+use Prim.Native.Nat.{ℕ, zero, suc, min, _+_, _-_, _%_}
 use lib.Dec.{eqb, leb, ltb}
 use lib.ListN.{length, take, drop, replicate}
 use Rattle.std.specs.Options.{mapped}
@@ -156,3 +156,125 @@ tickFrom (c ∷ cs) s = cond (isRunning (stepIn c input.Tick s .phase)) (tickFro
 -- A tick counts, up to 4294967295, and handles the slaves, unless a stop is due or the master is halted.
 abbrev pub ticked : State → State
 ticked s = cond (isRunning (s .phase)) (tickFrom (s .lines .slaves) (withClock (min (s .clock + 1) 4294967295) s)) s
+
+-- the answer that a frame is to the open request of a check, if it fits
+abbrev pub answerTo : SlaveLines → Stage → Content → Option Input
+answerTo c (AwaitBoot left) f = None
+answerTo c (Ask k) f = None
+answerTo c (Asked k left) f = mapped (λ r. input.Replied r) (replyIn (requestOf c k) f)
+answerTo c (ListenState left) f = None
+answerTo c (ListenControl left running) f = None
+answerTo c (Passed running started left) f = None
+answerTo c (Retry left) f = None
+answerTo c (ResetDue command) f = None
+
+abbrev pub signOr : Option Sign → Option Input → Option Input
+signOr None i = i
+signOr (Some s) i = Some (input.Heard s)
+
+-- what a frame is to a slave: a boot-up or heartbeat, or an answer that fits
+abbrev pub inputOf : SlaveLines → Stage → Content → Option Input
+inputOf c stage f = signOr (signIn f (c .node)) (answerTo c stage f)
+
+abbrev pub inputAt : State → SlaveLines → Content → Option Input
+inputAt s c f = inputOf c (entryOf (s .entries) c .stage) f
+
+abbrev pub takenBy : SlaveLines → Option Input → State → Bool × State
+takenBy c None s = (false, s)
+takenBy c (Some i) s = (true, stepIn c i s)
+
+abbrev pub heardAt : Content → Option SlaveLines → State → Bool × State
+heardAt f None s = (false, s)
+heardAt f (Some c) s = takenBy c (inputAt s c f) s
+
+-- A frame heard: whether it was used, and the state then. It is used if it is a boot-up or heartbeat of a listed slave
+-- or a fitting answer, unless a stop is due or the master is halted.
+abbrev pub heardBy : Content → State → Bool × State
+heardBy f s = cond (isRunning (s .phase)) (heardAt f (slaveBy (f .id % 128) (s .lines .slaves)) s) (false, s)
+
+abbrev pub sparedAt : List Entry → Option SlaveLines → Bool
+sparedAt t None = false
+sparedAt t (Some c) = isSpared c (entryOf t c)
+
+-- whether a single reset goes to a node: it is neither own nor a spared slave's
+abbrev pub sweepsTo : State → ℕ → Bool
+sweepsTo s n = not (eqb n (s .lines .own)) && not (sparedAt (s .entries) (slaveBy n (s .lines .slaves)))
+
+-- the first of the next k nodes after n that a single reset goes to
+abbrev pub singleAfter : State → ℕ → ℕ → Option ℕ
+singleAfter s zero n = None
+singleAfter s (suc k) n = cond (sweepsTo s (n + 1)) (Some (n + 1)) (singleAfter s k (n + 1))
+
+abbrev pub dueOr : SlaveLines → Option Duty → Option (ℕ × Duty) → Option (ℕ × Duty)
+dueOr c None r = r
+dueOr c (Some d) r = Some (c .node, d)
+
+-- the first slave of a list that is owed something, by its node, and what
+abbrev pub firstDue : Bool → List Entry → List SlaveLines → Option (ℕ × Duty)
+firstDue go t [] = None
+firstDue go t (c ∷ cs) = dueOr c (dutyOf go (entryOf t c .stage)) (firstDue go t cs)
+
+abbrev pub orElse : {X : Type 0} → Option X → Option X → Option X
+orElse None y = y
+orElse (Some x) y = Some x
+
+-- the next slave upward after the one last served, wrapping
+abbrev pub nextDue : State → Option (ℕ × Duty)
+nextDue s =
+    orElse (firstDue (going s) (s .entries) (drop (counted quality.Served s) (s .lines .slaves)))
+    (firstDue (going s) (s .entries) (take (counted quality.Served s) (s .lines .slaves)))
+
+-- One start serves all if startall is 1, no start was put before, and all listed slaves have passed.
+abbrev pub startsAll : State → Bool
+startsAll s = s .lines .startall && (not (s .started) && eqb (counted quality.Passed s) (length (s .lines .slaves)))
+
+abbrev pub servePlan : State → ℕ → Duty → Plan
+servePlan s n (duty.Reset command) = plan.Serve n (duty.Reset command)
+servePlan s n (duty.Request k) = plan.Serve n (duty.Request k)
+servePlan s n duty.Start = cond (startsAll s) (plan.StartAll n) (plan.Serve n duty.Start)
+
+abbrev pub dutyPlanFrom : State → Option (ℕ × Duty) → Plan
+dutyPlanFrom s None = plan.Nothing
+dutyPlanFrom s (Some p) = servePlan s (p .0) (p .1)
+
+abbrev pub dutyPlan : State → Plan
+dutyPlan s = dutyPlanFrom s (nextDue s)
+
+abbrev pub singleOr : Command → Option ℕ → Plan → Plan
+singleOr c None p = p
+singleOr c (Some n) p = plan.ResetOne c n
+
+-- single resets go on after the node n; with none left the duties come
+abbrev pub singlePlan : State → Command → ℕ → Plan
+singlePlan s c n = singleOr c (singleAfter s (127 - n) n) (dutyPlan s)
+
+abbrev pub sweepPlan : State → Sweep → Plan
+sweepPlan s Over = dutyPlan s
+sweepPlan s (Begun c) = cond (ltb 0 (counted quality.Spared s)) (singlePlan s c 0) (plan.ResetAll c)
+sweepPlan s (Singles c n) = singlePlan s c n
+
+abbrev pub phasePlan : State → Phase → Plan
+phasePlan s Running = sweepPlan s (s .sweep)
+phasePlan s StopDue = plan.Stop
+phasePlan s Halted = sweepPlan s (s .sweep)
+
+-- What a work puts: a due stop, else the sweep, else the next duty.
+abbrev pub planned : State → Plan
+planned s = phasePlan s (s .phase)
+
+abbrev pub nmtTo : Command → ℕ → Content
+nmtTo c n = nmtContent (record { command = c; node = n })
+
+abbrev pub dutyContent : List SlaveLines → ℕ → Duty → Option Content
+dutyContent cs n (duty.Reset c) = Some (nmtTo c n)
+dutyContent cs n (duty.Request k) = mapped (λ c. requestContent (requestOf c k)) (slaveBy n cs)
+dutyContent cs n duty.Start = Some (nmtTo command.Start n)
+
+-- the frame that a plan puts
+abbrev pub planContent : List SlaveLines → Plan → Option Content
+planContent cs plan.Nothing = None
+planContent cs plan.Stop = Some (nmtTo command.Stop 0)
+planContent cs (plan.ResetAll c) = Some (nmtTo c 0)
+planContent cs (plan.ResetOne c n) = Some (nmtTo c n)
+planContent cs (plan.Serve n d) = dutyContent cs n d
+planContent cs (plan.StartAll n) = Some (nmtTo command.Start 0)

@@ -1,26 +1,35 @@
 // Everything of the master but its port.
 ghost use mathlib.Core.Path.{_≡_};
-ghost use mathlib.Core.Bool.{true};
-ghost use Prim.Native.Nat.{_<_, _≤_};
-ghost use lib.ListN.{length, getD};
+ghost use mathlib.Core.Bool.{Bool, true};
+ghost use Prim.Native.Nat.{_-_, _<_, _≤_};
+ghost use lib.ListN.{length, getD, take, drop};
 ghost use Rattle.std.specs.Options.{mapped};
 ghost use Rattle.std.specs.Slices.{found};
+ghost use Rattle.frames.specs.Contents.{contentOf};
 ghost use Rattle.sheet.specs.Sheets.{linesOf};
 ghost use Rattle.sheet.specs.Views.{slaveOf};
-ghost use Rattle.master.specs.Network.{freshState, isRunning, isHalted, slaveBy, holds, counted, going, resultOf, triesAnew, broughtBy, stepIn, ticked};
+ghost use Rattle.master.specs.Network.{freshState, isRunning, isHalted, slaveBy, holds, counted, going, resultOf, triesAnew, broughtBy, stepIn, ticked, State, inputAt, heardBy, sweepsTo, singleAfter, firstDue, nextDue, startsAll, dutyPlan, singlePlan, planned, nmtTo, dutyContent, planContent};
 ghost use Rattle.master.specs.Views.{view, listed, blank};
+use crate::checks::request_of;
+use crate::stage::duty_of;
 use crate::stage::has_passed;
 use crate::stage::is_cleared;
 use crate::stage::is_spared;
 use crate::table::Table;
 use crate::types::Brought;
 use crate::types::Change;
+use crate::types::Duty;
 use crate::types::Input;
 use crate::types::Letter;
 use crate::types::Phase;
+use crate::types::Plan;
 use crate::types::Quality;
+use crate::types::Stage;
 use crate::types::Sweep;
+use frames::error_control::Sign;
+use frames::frame::Frame;
 use frames::nmt::Command;
+use frames::nmt::NmtMessage;
 use sheet::Sheet;
 use sheet::Slave;
 
@@ -36,6 +45,12 @@ pub struct Network {
     // ticks since the session began
     clock: u32,
     phase: Phase,
+}
+
+fn nmt(command: Command, node: u8) -> Frame
+    ensures { λ r. ⌜ contentOf r ≡ nmtTo command node ⌝ }
+{
+    NmtMessage { command, node }.frame()
 }
 
 fn listed_in(sheet: &Sheet) -> usize
@@ -160,6 +175,196 @@ impl Network {
             if !self.is_running() {
                 return;
             }
+        }
+    }
+
+    // The place of a node's slave on the sheet, if it is listed.
+    fn place_of(&self, node: u8) -> Option<usize>
+        ensures slave { λ r. ⌜ mapped (λ p. getD (listed (now (self .entry))) p blank) r ≡ slaveBy node (listed (now (self .entry))) ⌝ }
+        ensures inside { λ r. ⌜ found r (λ p. p < length (listed (now (self .entry)))) ⌝ }
+    {
+        for place in 0..listed_in(&self.sheet) {
+            if slave_at(&self.sheet, place).node == node {
+                return Some(place);
+            }
+        }
+        None
+    }
+
+    pub(crate) fn result(&self, node: u8) -> Option<Letter>
+        ensures { λ r. ⌜ r ≡ resultOf node (view (now (self .entry))) ⌝ }
+    {
+        match self.place_of(node) {
+            Some(place) => self.table.at(slave_at(&self.sheet, place)).result,
+            None => Some(Letter::NotListed),
+        }
+    }
+
+    // What a frame is to the slave at a place, if anything.
+    fn input_of(&self, place: usize, frame: &Frame) -> Option<Input>
+        requires { ⌜ place < length (listed (now self)) ⌝ }
+        ensures { λ r. ⌜ r ≡ inputAt (view (now (self .entry))) (getD (listed (now (self .entry))) place blank) (contentOf (now (frame .entry))) ⌝ }
+    {
+        let c = slave_at(&self.sheet, place);
+        if let Some(sign) = Sign::read(frame, c.node) {
+            return Some(Input::Heard(sign));
+        }
+        match self.table.at(c).stage {
+            Stage::Asked { check, .. } => match request_of(c, check).reply(frame) {
+                Some(reply) => Some(Input::Replied(reply)),
+                None => None,
+            },
+            _ => None,
+        }
+    }
+
+    // A frame heard; answers whether it was used.
+    pub(crate) fn heard(&mut self, frame: &Frame) -> bool
+        ensures { λ r. ⌜ _≡_ {A = Bool × State} (r, view (now (self .exit))) (heardBy (contentOf (now (frame .entry))) (view (now (self .entry)))) ⌝ }
+    {
+        if !self.is_running() {
+            return false;
+        }
+        let Some(place) = self.place_of(frame.node()) else {
+            return false;
+        };
+        let Some(input) = self.input_of(place, frame) else {
+            return false;
+        };
+        self.step_at(place, input);
+        true
+    }
+
+    // Whether a single reset goes to this node.
+    fn sweeps_to(&self, node: u8) -> bool
+        ensures { λ r. ⌜ r ≡ sweepsTo (view (now (self .entry))) node ⌝ }
+    {
+        if node == self.sheet.own {
+            return false;
+        }
+        match self.place_of(node) {
+            Some(place) => {
+                let c = slave_at(&self.sheet, place);
+                !is_spared(&self.table.at(c), c)
+            }
+            None => true,
+        }
+    }
+
+    // The next node after this one that a single reset goes to.
+    fn single_after(&self, passed: u8) -> Option<u8>
+        ensures { λ r. ⌜ r ≡ singleAfter (view (now (self .entry))) (127 - passed) passed ⌝ }
+    {
+        for node in passed..127 {
+            if self.sweeps_to(node + 1) {
+                return Some(node + 1);
+            }
+        }
+        None
+    }
+
+    // The first slave from one place up to another that is owed something, by its node, and what.
+    fn first_due(&self, from: usize, to: usize, go: bool) -> Option<(u8, Duty)>
+        requires { ⌜ to ≤ length (listed (now self)) ⌝ }
+        ensures { λ r. ⌜ r ≡ firstDue go (view (now (self .entry)) .entries) (drop from (take to (listed (now (self .entry))))) ⌝ }
+    {
+        for place in from..to {
+            let c = slave_at(&self.sheet, place);
+            if let Some(duty) = duty_of(&self.table.at(c), go) {
+                return Some((c.node, duty));
+            }
+        }
+        None
+    }
+
+    // The next slave upward after the one last served that is owed something.
+    fn next_due(&self) -> Option<(u8, Duty)>
+        ensures { λ r. ⌜ r ≡ nextDue (view (now (self .entry))) ⌝ }
+    {
+        let go = self.go();
+        let served = self.count(Quality::Served);
+        match self.first_due(served, listed_in(&self.sheet), go) {
+            Some(due) => Some(due),
+            None => self.first_due(0, served, go),
+        }
+    }
+
+    // Whether one start serves all.
+    fn starts_all(&self) -> bool
+        ensures { λ r. ⌜ r ≡ startsAll (view (now (self .entry))) ⌝ }
+    {
+        self.sheet.startall && !self.started && self.count(Quality::Passed) == listed_in(&self.sheet)
+    }
+
+    fn duty_plan(&self) -> Plan
+        ensures { λ r. ⌜ r ≡ dutyPlan (view (now (self .entry))) ⌝ }
+    {
+        let Some((node, duty)) = self.next_due() else {
+            return Plan::Nothing;
+        };
+        match duty {
+            Duty::Start => {
+                if self.starts_all() {
+                    Plan::StartAll { node }
+                } else {
+                    Plan::Serve { node, duty }
+                }
+            }
+            _ => Plan::Serve { node, duty },
+        }
+    }
+
+    fn single_plan(&self, command: Command, passed: u8) -> Plan
+        ensures { λ r. ⌜ r ≡ singlePlan (view (now (self .entry))) command passed ⌝ }
+    {
+        match self.single_after(passed) {
+            Some(node) => Plan::ResetOne { command, node },
+            None => self.duty_plan(),
+        }
+    }
+
+    // What a work puts: a due stop, else the sweep, else the next duty.
+    pub(crate) fn plan(&self) -> Plan
+        ensures { λ r. ⌜ r ≡ planned (view (now (self .entry))) ⌝ }
+    {
+        match (self.phase, self.sweep) {
+            (Phase::StopDue, _) => Plan::Stop,
+            (_, Sweep::Over) => self.duty_plan(),
+            (_, Sweep::Begun { command }) => {
+                if self.count(Quality::Spared) > 0 {
+                    self.single_plan(command, 0)
+                } else {
+                    Plan::ResetAll { command }
+                }
+            }
+            (_, Sweep::Singles { command, passed }) => self.single_plan(command, passed),
+        }
+    }
+
+    fn duty_frame(&self, node: u8, duty: Duty) -> Option<Frame>
+        ensures { λ r. ⌜ mapped contentOf r ≡ dutyContent (listed (now (self .entry))) node duty ⌝ }
+    {
+        match duty {
+            Duty::Reset(command) => Some(nmt(command, node)),
+            Duty::Request(check) => {
+                let place = self.place_of(node)?;
+                Some(request_of(slave_at(&self.sheet, place), check).frame())
+            }
+            Duty::Start => Some(nmt(Command::Start, node)),
+        }
+    }
+
+    // The frame that a plan puts.
+    pub(crate) fn frame_of(&self, plan: Plan) -> Option<Frame>
+        ensures { λ r. ⌜ mapped contentOf r ≡ planContent (listed (now (self .entry))) plan ⌝ }
+    {
+        match plan {
+            Plan::Nothing => None,
+            Plan::Stop => Some(nmt(Command::Stop, 0)),
+            Plan::ResetAll { command } => Some(nmt(command, 0)),
+            Plan::ResetOne { command, node } => Some(nmt(command, node)),
+            Plan::Serve { node, duty } => self.duty_frame(node, duty),
+            Plan::StartAll { .. } => Some(nmt(Command::Start, 0)),
         }
     }
 }
