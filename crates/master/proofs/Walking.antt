@@ -14,12 +14,13 @@ use Rattle.std.specs.declared.option.Option.the-variants.{Some, None}
 use Rattle.sheet.specs.declared.model.slave.Slave.{Slave}
 use Rattle.sheet.specs.Format.{SlaveLines}
 use Rattle.sheet.specs.Views.{slaveOf}
+use Rattle.master.specs.declared.types.Change.{Change}
 use Rattle.master.specs.declared.types.Duty.{Duty}
 use Rattle.master.specs.declared.types.Entry.{Entry}
 use Rattle.master.specs.declared.types.Quality.{Quality}
 use Rattle.master.specs.Network.{State, holds, slaveBy, firstDue, dueOr, sweepsTo, singleAfter}
 use Rattle.master.specs.Step.{dutyOf}
-use Rattle.master.specs.Table.{entryOf}
+use Rattle.master.specs.Table.{entryOf, applied, appliedAll}
 use Rattle.master.specs.Views.{blank}
 
 -- the slave at a place, as the sheet's lines
@@ -70,3 +71,10 @@ due-none go t cs to i h = at-drop-all (firstDue go t) (take to cs) i (omega (ari
 -- a search for the next node of a sweep
 pub single-at : (s : State) (n : ℕ) → n < 127 → singleAfter s (127 - n) n ≡ cond (sweepsTo s (n + 1)) (Some (n + 1)) (singleAfter s (127 - (n + 1)) (n + 1))
 single-at s n h = let e : 127 - n ≡ suc (127 - (n + 1)) = omega arith in ap (λ k. singleAfter s k n) e
+
+-- a change of one slave after the other
+pub applied-more : (g : Change) (cs : List SlaveLines) (i : ℕ) (t u : List Entry) → i < length cs → u ≡ applied g t (getD cs i blank) → appliedAll g (drop i cs) t ≡ appliedAll g (drop (i + 1) cs) u
+applied-more g cs i t u h e = at-drop-more (λ xs. appliedAll g xs t) cs i blank h ∙ ap (appliedAll g (drop (i + 1) cs)) (sym e)
+
+pub applied-done : (g : Change) (cs : List SlaveLines) (i : ℕ) (t : List Entry) → length cs ≤ i → appliedAll g (drop i cs) t ≡ t
+applied-done g cs i t h = at-drop-all (λ xs. appliedAll g xs t) cs i h

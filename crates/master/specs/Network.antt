@@ -22,6 +22,7 @@ use Rattle.master.specs.Step.{stepped, isPassed, isCleared, isSpared, dutyOf}
 use Rattle.master.specs.Table.{fresh, entryOf, changed, applied, appliedAll}
 use Rattle.master.specs.declared.types.Brought.{Brought}
 use Rattle.master.specs.declared.types.Brought.the-variants as brought
+use Rattle.master.specs.declared.types.Change.{Change}
 use Rattle.master.specs.declared.types.Change.the-variants as change
 use Rattle.master.specs.declared.types.Check.{Check}
 use Rattle.master.specs.declared.types.Duty.{Duty}
@@ -278,3 +279,32 @@ planContent cs (plan.ResetAll c) = Some (nmtTo c 0)
 planContent cs (plan.ResetOne c n) = Some (nmtTo c n)
 planContent cs (plan.Serve n d) = dutyContent cs n d
 planContent cs (plan.StartAll n) = Some (nmtTo command.Start 0)
+
+abbrev pub appliedTo : Change → Option SlaveLines → List Entry → List Entry
+appliedTo g None t = t
+appliedTo g (Some c) t = applied g t c
+
+-- what a duty does to its slave's entry
+abbrev pub changeFor : ℕ → Duty → Change
+changeFor wait (duty.Reset command) = change.Reset
+changeFor wait (duty.Request k) = change.Request wait
+changeFor wait duty.Start = change.Start
+
+abbrev pub isStart : Duty → Bool
+isStart (duty.Reset command) = false
+isStart (duty.Request k) = false
+isStart duty.Start = true
+
+-- the slave of node n is served: the sweep is over, and n is the node last served
+abbrev pub served : ℕ → Bool → State → State
+served n start s = record { lines = s .lines; entries = s .entries; sweep = Over; last = n; started = s .started || start; clock = s .clock; phase = s .phase }
+
+-- What the state is once a plan's frame is put. The stop halts; a reset to node 0 ends the sweep at once, and a single one
+-- moves it on; a duty ends it, for it came since no node was left. So does a work that finds nothing due.
+abbrev pub carriedOut : Plan → State → State
+carriedOut plan.Nothing s = withSweep Over s
+carriedOut plan.Stop s = withPhase Halted s
+carriedOut (plan.ResetAll c) s = withSweep Over (withEntries (appliedAll change.Reset (s .lines .slaves) (s .entries)) s)
+carriedOut (plan.ResetOne c n) s = withSweep (Singles c n) (withEntries (appliedTo change.Reset (slaveBy n (s .lines .slaves)) (s .entries)) s)
+carriedOut (plan.Serve n d) s = served n (isStart d) (withEntries (appliedTo (changeFor (s .lines .wait) d) (slaveBy n (s .lines .slaves)) (s .entries)) s)
+carriedOut (plan.StartAll n) s = served n true (withEntries (appliedAll change.Start (s .lines .slaves) (s .entries)) s)

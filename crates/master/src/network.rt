@@ -8,7 +8,8 @@ ghost use Rattle.std.specs.Slices.{found};
 ghost use Rattle.frames.specs.Contents.{contentOf};
 ghost use Rattle.sheet.specs.Sheets.{linesOf};
 ghost use Rattle.sheet.specs.Views.{slaveOf};
-ghost use Rattle.master.specs.Network.{freshState, isRunning, isHalted, slaveBy, holds, counted, going, resultOf, triesAnew, broughtBy, stepIn, ticked, State, inputAt, heardBy, sweepsTo, singleAfter, firstDue, nextDue, startsAll, dutyPlan, singlePlan, planned, nmtTo, dutyContent, planContent};
+ghost use Rattle.master.specs.Network.{freshState, isRunning, isHalted, slaveBy, holds, counted, going, resultOf, triesAnew, broughtBy, stepIn, ticked, State, inputAt, heardBy, sweepsTo, singleAfter, firstDue, nextDue, startsAll, dutyPlan, singlePlan, planned, nmtTo, dutyContent, planContent, withEntries, appliedTo, changeFor, isStart, carriedOut};
+ghost use Rattle.master.specs.Table.{appliedAll};
 ghost use Rattle.master.specs.Views.{view, listed, blank};
 use crate::checks::request_of;
 use crate::stage::duty_of;
@@ -51,6 +52,26 @@ fn nmt(command: Command, node: u8) -> Frame
     ensures { λ r. ⌜ contentOf r ≡ nmtTo command node ⌝ }
 {
     NmtMessage { command, node }.frame()
+}
+
+// What a duty does to its slave's entry.
+fn change_for(wait: u16, duty: Duty) -> Change
+    ensures { λ r. ⌜ r ≡ changeFor wait duty ⌝ }
+{
+    match duty {
+        Duty::Reset(_) => Change::Reset,
+        Duty::Request(_) => Change::Request(wait),
+        Duty::Start => Change::Start,
+    }
+}
+
+fn is_start(duty: Duty) -> bool
+    ensures { λ r. ⌜ r ≡ isStart duty ⌝ }
+{
+    match duty {
+        Duty::Start => true,
+        _ => false,
+    }
 }
 
 fn listed_in(sheet: &Sheet) -> usize
@@ -293,7 +314,9 @@ impl Network {
     fn starts_all(&self) -> bool
         ensures { λ r. ⌜ r ≡ startsAll (view (now (self .entry))) ⌝ }
     {
-        self.sheet.startall && !self.started && self.count(Quality::Passed) == listed_in(&self.sheet)
+        self.sheet.startall
+            && !self.started
+            && self.count(Quality::Passed) == listed_in(&self.sheet)
     }
 
     fn duty_plan(&self) -> Plan
@@ -366,5 +389,81 @@ impl Network {
             Plan::Serve { node, duty } => self.duty_frame(node, duty),
             Plan::StartAll { .. } => Some(nmt(Command::Start, 0)),
         }
+    }
+
+    // A change of the entry of a node's slave, if it is listed.
+    fn apply_to(&mut self, node: u8, change: Change)
+        ensures { λ _. ⌜ view (now (self .exit)) ≡ withEntries (appliedTo change (slaveBy node (listed (now (self .entry)))) (view (now (self .entry)) .entries)) (view (now (self .entry))) ⌝ }
+    {
+        if let Some(place) = self.place_of(node) {
+            let c = slave_at(&self.sheet, place);
+            self.table.apply(c, change);
+        }
+    }
+
+    // A change of the entries of all listed slaves.
+    fn apply_all(&mut self, change: Change)
+        ensures { λ _. ⌜ view (now (self .exit)) ≡ withEntries (appliedAll change (listed (now (self .entry))) (view (now (self .entry)) .entries)) (view (now (self .entry))) ⌝ }
+    {
+        for place in 0..listed_in(&self.sheet) {
+            let c = slave_at(&self.sheet, place);
+            self.table.apply(c, change);
+        }
+    }
+
+    fn serve(&mut self, node: u8, duty: Duty)
+        ensures { λ _. ⌜ view (now (self .exit)) ≡ carriedOut (Plan.Serve node duty) (view (now (self .entry))) ⌝ }
+    {
+        self.apply_to(node, change_for(self.sheet.wait, duty));
+        self.started |= is_start(duty);
+        self.last = node;
+        self.sweep = Sweep::Over;
+    }
+
+    // What the master becomes when the plan's frame is put.
+    pub(crate) fn carry_out(&mut self, plan: Plan)
+        ensures { λ _. ⌜ view (now (self .exit)) ≡ carriedOut plan (view (now (self .entry))) ⌝ }
+    {
+        match plan {
+            Plan::Nothing => self.sweep = Sweep::Over,
+            Plan::Stop => self.phase = Phase::Halted,
+            Plan::ResetAll { .. } => {
+                self.apply_all(Change::Reset);
+                self.sweep = Sweep::Over;
+            }
+            Plan::ResetOne { command, node } => {
+                self.apply_to(node, Change::Reset);
+                self.sweep = Sweep::Singles {
+                    command,
+                    passed: node,
+                };
+            }
+            Plan::Serve { node, duty } => self.serve(node, duty),
+            Plan::StartAll { node } => {
+                self.apply_all(Change::Start);
+                self.started = true;
+                self.last = node;
+                self.sweep = Sweep::Over;
+            }
+        }
+    }
+
+    // A fresh master's: a sweep 82h is begun, and the keep-alive slaves begin at check 1.
+    pub(crate) fn new(sheet: Sheet) -> Network
+        ensures { λ r. ⌜ view r ≡ freshState (linesOf sheet) ⌝ }
+    {
+        let mut network = Network {
+            sheet,
+            table: Table::new(),
+            sweep: Sweep::Begun {
+                command: Command::ResetCommunication,
+            },
+            last: 0,
+            started: false,
+            clock: 0,
+            phase: Phase::Running,
+        };
+        network.apply_all(Change::Begin);
+        network
     }
 }

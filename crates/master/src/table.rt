@@ -34,7 +34,9 @@ impl Table {
             result: None,
             once: false,
         };
-        Table { entries: [fresh; 127] }
+        Table {
+            entries: [fresh; 127],
+        }
     }
 
     pub(crate) fn at(&self, c: &Slave) -> Entry

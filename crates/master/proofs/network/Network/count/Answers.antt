@@ -12,13 +12,13 @@ pub loop-place-again : need.loop-place-again
 loop-place-again c =
     let n = c .args .self .now in
     let lt : c .loop-place .place < length (listed n) = omega arith in
-    elim (c .if-has .came)
-    [ then-has w ↦
-        let z = count-yes (c .args .quality) (n .table .entries) (n .last) (listed n) (c .loop-place .place) _ lt (c .slave-at .ensures) (sym (c .has .ensures) ∙ w .if-has .taken) in
-        (omega (arith, w .n-is), omega (arith, w .n-is))
-    | else-has w ↦
-        let z = count-no (c .args .quality) (n .table .entries) (n .last) (listed n) (c .loop-place .place) _ lt (c .slave-at .ensures) (sym (c .has .ensures) ∙ w .if-has .left) in
-        (omega (arith, w .n-is), omega (arith, w .n-is))
+    elim (c .if-has .came) [
+      | then-has w ↦
+          let z = count-yes (c .args .quality) (n .table .entries) (n .last) (listed n) (c .loop-place .place) _ lt (c .slave-at .ensures) (sym (c .has .ensures) ∙ w .if-has .taken) in
+          (omega (arith, w .n-is), omega (arith, w .n-is))
+      | else-has w ↦
+          let z = count-no (c .args .quality) (n .table .entries) (n .last) (listed n) (c .loop-place .place) _ lt (c .slave-at .ensures) (sym (c .has .ensures) ∙ w .if-has .left) in
+          (omega (arith, w .n-is), omega (arith, w .n-is))
     ]
 
 pub returns : need.returns

@@ -29,9 +29,10 @@ loop-place-again c =
     let n = c .args .self .now in
     let inside : c .loop-place .place < length (listed n) = omega (arith, c .listed-in-place-end .ensures) in
     let slaves = ap (λ (l : SheetLines). l .slaves) (c .loop-place .inv .1) in
-    let step = c .step-at .ensures ∙ ap (λ cs. stepIn (getD cs (c .loop-place .place) blank) input.Tick (view (c .loop-place .self))) slaves in
-    (sym (tick-more (listed n) (c .loop-place .place) (view (c .loop-place .self)) (view (c .step-at .last .self)) inside step (sym (c .is-running-in-loop-place .ensures) ∙ c .if-not-is-running-2 .left)) ∙ c .loop-place .inv .0,
-    ap (λ (s : State). s .lines) (c .step-at .ensures) ∙ step-lines (getD (listed (c .loop-place .self)) (c .loop-place .place) blank) input.Tick (view (c .loop-place .self)) ∙ c .loop-place .inv .1)
+    let step = c .step-at .ensures ∙ ap (λ cs. stepIn (getD cs (c .loop-place .place) blank) input.Tick (view (c .loop-place .self))) slaves in (
+      sym (tick-more (listed n) (c .loop-place .place) (view (c .loop-place .self)) (view (c .step-at .last .self)) inside step (sym (c .is-running-in-loop-place .ensures) ∙ c .if-not-is-running-2 .left)) ∙ c .loop-place .inv .0,
+      ap (λ (s : State). s .lines) (c .step-at .ensures) ∙ step-lines (getD (listed (c .loop-place .self)) (c .loop-place .place) blank) input.Tick (view (c .loop-place .self)) ∙ c .loop-place .inv .1,
+    )
 
 pub returns : need.returns
 returns c =
