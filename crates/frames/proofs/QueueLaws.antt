@@ -1,14 +1,15 @@
 -- What every queue keeps. Assumes nothing.
-use Prim.Native.Nat.{ℕ, suc, _≤_}
-use mathlib.Core.Path.{_≡_}
+use Prim.Native.Nat.{_≤_}
 use native.Mathlib.Omega.{arith}
 use lib.ListN.{length}
 use Rattle.frames.specs.declared.queue.Queue.{Queue}
 use Rattle.frames.specs.Waiting.{waiting, most}
 use Rattle.frames.proofs.Rings.{length-turned}
 
-pub queue-some : {T : Type 0} (r : Queue T) → 1 ≤ most r
-queue-some r = omega (arith, r .«head_ok»)
+-- at least one element can wait
+pub queue-some : {T : Type 0} (q : Queue T) → 1 ≤ most q
+queue-some q = omega (arith, q .«head_ok»)
 
-pub queue-within : {T : Type 0} (r : Queue T) → length (waiting r) ≤ most r
-queue-within r = omega (arith, length-turned (r .slots .now) (r .head) (r .len) (omega (arith, r .«head_ok»)) (r .«len_ok»), r .«len_ok»)
+-- and no more wait than can
+pub queue-within : {T : Type 0} (q : Queue T) → length (waiting q) ≤ most q
+queue-within q = omega (arith, length-turned (q .slots .now) (q .head) (q .len) (omega (arith, q .«head_ok»)) (q .«len_ok»), q .«len_ok»)

@@ -1,12 +1,12 @@
 -- Frames of the same content are the same value. Assumes nothing.
-use mathlib.Core.Path.{_≡_, refl, sym, ap, _∙_}
+use mathlib.Core.Path.{_≡_, sym, ap, _∙_}
 use mathlib.Core.HLevel.{isProp→PathP}
-use mathlib.Core.List.{List, _++_, List·isSet}
+use mathlib.Core.List.{List, List·isSet}
 use Prim.Native.Nat.{ℕ, min, _-_, _+_, _≤_}
 use native.Mathlib.Nat.{ℕ-set}
 use native.Mathlib.Bridge.{le-prop}
 use native.Mathlib.Omega.{arith}
-use lib.ListN.{length, take, replicate, length-take, length-append, length-replicate}
+use lib.ListN.{length, take, length-take, length-append, length-replicate}
 use Rattle.frames.specs.Bytes.{padded}
 use Rattle.frames.specs.Contents.{contentOf}
 use Rattle.frames.specs.declared.frame.Frame.{Frame}

@@ -2,7 +2,7 @@
 use mathlib.Core.Path.{_≡_, refl, sym, ap, _∙_}
 use mathlib.Core.Bool.{Bool, true, false, cond, not, _&&_}
 use mathlib.Core.List.{List, [], _∷_, _++_, append-assoc}
-use Prim.Native.Nat.{ℕ, suc, _<_}
+use Prim.Native.Nat.{ℕ, _<_}
 use native.Mathlib.Omega.{arith}
 use lib.ListN.{length}
 use Rattle.std.specs.declared.option.Option.{Option}
@@ -12,6 +12,7 @@ use Rattle.frames.specs.Lists.{accepts, added}
 use Rattle.ports.specs.Meaning.{held as holds, pauseAfter, given, kept, paused}
 use Rattle.ports.specs.Handing.{Handed, handed}
 
+-- none is not a frame
 no-frame : {X : Type 0} (f : Frame) → _≡_ {A = Option Frame} None (Some f) → X
 no-frame f e = let z : _≡_ {A = ℕ} 0 1 = cc in absurd (omega arith)
 
@@ -50,7 +51,7 @@ module _ (pause gap most : ℕ) (there : List Frame) where
   full [] e = refl
   full (x ∷ xs) e = rw e
 
--- from equal parts
+-- what is held, and what is handed over, from equal parts
 pub held : {fs fs′ : List Frame} {p p′ : ℕ} {ts : List Frame} → fs ≡ fs′ → p ≡ p′ → _≡_ {A = Handed} (record { from = fs; pause = p; to = ts }) (record { from = fs′; pause = p′; to = ts })
 held {ts = ts} a b = λ i. record { from = a i; pause = b i; to = ts }
 

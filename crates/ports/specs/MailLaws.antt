@@ -1,5 +1,5 @@
 -- How many wait in a mailbox. Assumes nothing.
-use Prim.Native.Nat.{ℕ, max, _+_, _-_, _≤_}
+use Prim.Native.Nat.{ℕ, max, _-_, _≤_}
 use mathlib.Core.Path.{_≡_, refl}
 use mathlib.Core.Bool.{true}
 use native.Mathlib.Omega.{arith}

@@ -1,4 +1,4 @@
-use mathlib.Core.Path.{refl, sym, ap, subst, _∙_}
+use mathlib.Core.Path.{refl, sym, _∙_}
 use Rattle.ports.specs.Mail.{mailWaiting}
 use Rattle.ports.proofs.MailSteps.{nearer-fair, nearer-rest, given-first, kept-rest, paused-none}
 use Rattle.ports.proofs.mailbox.methods.MailboxPort.take.Needs as need
