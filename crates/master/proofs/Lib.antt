@@ -1,4 +1,5 @@
 pub mod Planning
+pub mod Seeing
 pub mod Setting
 pub mod Ticking
 pub mod Walking

@@ -4,6 +4,8 @@ use mathlib.Core.List.{List}
 use Prim.Native.Nat.{ℕ, _+_}
 use lib.Dec.{eqb, ltb}
 use lib.ListN.{length, getD}
+use Rattle.frames.specs.declared.error_control.Sign.{Sign}
+use Rattle.frames.specs.declared.error_control.Sign.the-variants as sign
 use Rattle.frames.specs.declared.sdo.Access.the-variants.{Read, Write}
 use Rattle.frames.specs.declared.sdo.Reply.{Reply}
 use Rattle.frames.specs.declared.sdo.Reply.the-variants.{Abort, Written, Value}
@@ -104,3 +106,10 @@ following c booted Product = fromRevision c booted
 following c booted Revision = fromSerial c booted
 following c booted Serial = fromState c booted
 following c booted (Set i) = fromSet c (i + 1)
+
+-- Checks 6 and 8 ask whether a heartbeat says Operational.
+abbrev pub runs : Sign → Bool
+runs sign.BootUp = false
+runs sign.Stopped = false
+runs sign.Operational = true
+runs sign.PreOperational = false

@@ -1,5 +1,6 @@
 pub mod Checks
 pub mod Network
+pub mod Record
 pub mod Step
 pub mod Table
 pub mod Views

@@ -10,7 +10,7 @@ use Rattle.frames.specs.declared.nmt.Command.{Command}
 use Rattle.frames.specs.declared.nmt.Command.the-variants.{ResetNode, ResetCommunication}
 use Rattle.frames.specs.declared.sdo.Reply.{Reply}
 use Rattle.sheet.specs.Format.{SlaveLines}
-use Rattle.master.specs.Checks.{unanswered, verdictOf, following}
+use Rattle.master.specs.Checks.{runs, unanswered, verdictOf, following}
 use Rattle.master.specs.declared.types.Brought.{Brought}
 use Rattle.master.specs.declared.types.Brought.the-variants as brought
 use Rattle.master.specs.declared.types.Check.{Check}
@@ -38,13 +38,6 @@ wordOf sign.BootUp = word.BootUp
 wordOf sign.Stopped = word.Stopped
 wordOf sign.Operational = word.Operational
 wordOf sign.PreOperational = word.PreOperational
-
--- whether a heartbeat says Operational
-abbrev pub runs : Sign → Bool
-runs sign.BootUp = false
-runs sign.Stopped = false
-runs sign.Operational = true
-runs sign.PreOperational = false
 
 abbrev pub to : Stage → Entry → Entry
 to s e = record { stage = s; word = e .word; booted = e .booted; result = e .result; once = e .once }

@@ -2,8 +2,8 @@
 ghost use mathlib.Core.Path.{_≡_};
 ghost use mathlib.Core.Bool.{cond, not, _&&_};
 ghost use Rattle.sheet.specs.Views.{slaveOf};
-ghost use Rattle.master.specs.Step.{wordOf, runs, to, saying, quietly, missedBy, lostBy, passedBy, goneOn, bootedBy, onBeat, decided, stepped, resetPut, requestPut, startPut, isPassed, isCleared, isSpared, mayRun, dutyOf};
-ghost use Rattle.master.specs.Checks.{verdictOf};
+ghost use Rattle.master.specs.Step.{wordOf, to, saying, quietly, missedBy, lostBy, passedBy, goneOn, bootedBy, onBeat, decided, stepped, resetPut, requestPut, startPut, isPassed, isCleared, isSpared, mayRun, dutyOf};
+ghost use Rattle.master.specs.Checks.{runs, verdictOf};
 ghost use Rattle.master.specs.Table.{changeBy};
 ghost use Rattle.master.specs.declared.types.Stage.the-variants as stages;
 use crate::checks::following;
