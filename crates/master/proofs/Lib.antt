@@ -1,5 +1,6 @@
 pub mod Planning
 pub mod Seeing
 pub mod Setting
+pub mod Spread
 pub mod Ticking
 pub mod Walking
