@@ -1,3 +1,5 @@
+pub mod Agreement
+pub mod Hearing
 pub mod Planning
 pub mod Seeing
 pub mod Setting

@@ -51,7 +51,7 @@ tryOf (ResetDue command) = none
 abbrev pub seen : Entry → Reading
 seen e = record { at = tryOf (e .stage); booted = e .booted; word = e .word; once = e .once }
 
-abbrev made : Stage → Word → Bool → Option Letter → Bool → Entry
+abbrev pub made : Stage → Word → Bool → Option Letter → Bool → Entry
 made x w b l o = record { stage = x; word = w; booted = b; result = l; once = o }
 
 -- a choice on either side
