@@ -13,12 +13,16 @@ use Rattle.std.specs.declared.option.Option.the-variants.{Some, None}
 use Rattle.std.proofs.shelf.Sums.{folded-push}
 use Rattle.std.proofs.shelf.Tests.{cases-eq, cases-bool, cond-true, cond-false, eq-eqb, ne-eqb}
 use Rattle.frames.specs.Contents.{Content}
-use Rattle.frames.specs.declared.nmt.Command.the-variants.{ResetNode}
+use Rattle.frames.specs.declared.nmt.Command.the-variants.{ResetNode, Stop}
 use Rattle.frames.specs.declared.sdo.Reply.{Reply}
 use Rattle.sheet.specs.Format.{SlaveLines, SheetLines}
 use Rattle.sheet.specs.Rules.{SlavesKeep}
 use Rattle.master.specs.Network.{State, isRunning, slaveBy, brings, broughtBy, stepIn, withEntries, withPhase, withSweep, triesAnew, inputOf, inputAt, takenBy, heardAt, heardBy}
-use Rattle.master.specs.Record.{Try, none, Reading, Event, heard, tick, read, reading, unread}
+use Rattle.frames.specs.Nmt.{nmtIn, reaches}
+use Rattle.frames.specs.Signs.{signIn}
+use Rattle.frames.specs.declared.error_control.Sign.{Sign}
+use Rattle.frames.specs.declared.error_control.Sign.the-variants as sign
+use Rattle.master.specs.Record.{Try, none, Reading, Event, heard, tick, put, read, reading, unread, signed, heardFrom, putTo, commanded}
 use Rattle.master.specs.Checks.{verdictOf}
 use Rattle.master.specs.Step.{stepped, onReply, onTick, decided}
 use Rattle.master.specs.Table.{fresh, entryOf, changed}
@@ -37,6 +41,7 @@ use Rattle.master.specs.declared.types.Sweep.{Sweep}
 use Rattle.master.specs.declared.types.Sweep.the-variants.{Begun}
 use Rattle.master.specs.declared.types.Verdict.{Verdict}
 use Rattle.master.specs.declared.types.Verdict.the-variants.{Met, Missed}
+use Rattle.master.specs.declared.types.Word.{Word}
 use Rattle.master.proofs.Hearing.{inputted, hearing, hearing-seen, far-seen}
 use Rattle.master.proofs.Seeing.{seen, tryOf}
 use Rattle.master.proofs.Spread.{Every, every-map, every-zip, Ranged, ranged, found, has, entry-same, entry-other, changed-long, changedBy, changedBy-long, spread}
@@ -207,3 +212,49 @@ module _ (ls : SheetLines) (k : SlavesKeep (ls .own) 0 (ls .slaves)) (h : List E
           let read-none : reading ls c (h ++ heard f ∷ []) .at ≡ none = ap (λ z. z .at) (sym (every-found (Same ls (h ++ heard f ∷ []) (v .entries)) m (ls .slaves) c e there)) ∙ none-here in
           is-dead ls (h ++ heard f ∷ []) v (q .lines) (p .1) (some-found (Idle ls (h ++ heard f ∷ []) (v .entries)) m (ls .slaves) c e (p .0, none-here, read-none)))
       (q .phase)
+
+  taken : (c : SlaveLines) → slaveBy m (ls .slaves) ≡ Some c → (i : Option Input) → inputOf c (entryOf t c .stage) f ≡ i → Agrees ls (h ++ heard f ∷ []) (takenBy c i now .1)
+  taken c e None x =
+      let g = has m (ls .own) 0 (ls .slaves) c k e in
+      let all = after (Some c) e (changed t c (entryOf t c)) (ap (λ y. changed t c (inputted c y (entryOf t c))) x) in
+      live t w l b n long
+      (every-zip (Ranged (ls .own) 0) (Same ls (h ++ heard f ∷ []) (changed t c (entryOf t c))) (Same ls (h ++ heard f ∷ []) t) (ls .slaves)
+      (λ d r z. let low = r .above in ap seen (sym (put-back t c d long (g .low) (g .high) (omega arith))) ∙ z) (ranged (ls .own) 0 (ls .slaves) k) all)
+  taken c e (Some i) x = stepping c e i x
+
+  looked : (o : Option SlaveLines) → slaveBy m (ls .slaves) ≡ o → Agrees ls (h ++ heard f ∷ []) (heardAt f o now .1)
+  looked None e = live t w l b n long (after None e t refl)
+  looked (Some c) e = taken c e (inputOf c (entryOf t c .stage) f) refl
+
+  pub live-heard : Agrees ls (h ++ heard f ∷ []) (heardBy f now .1)
+  live-heard = looked (slaveBy m (ls .slaves)) refl
+
+-- a slave without a try stays so, whatever is heard and however long it takes
+abbrev untried : Bool → Word → Bool → Reading
+untried b w o = record { at = none; booted = b; word = w; once = o }
+
+untried-sign : (c : SlaveLines) (s : Sign) (b : Bool) (w : Word) (o : Bool) → signed c s (untried b w o) .at ≡ none
+untried-sign c sign.BootUp b w o = refl
+untried-sign c sign.Stopped b w o = refl
+untried-sign c sign.Operational b w o = refl
+untried-sign c sign.PreOperational b w o = refl
+
+untried-heard : (c : SlaveLines) (f : Content) (s : Option Sign) (b : Bool) (w : Word) (o : Bool) → heardFrom c f s (untried b w o) .at ≡ none
+untried-heard c f None b w o = refl
+untried-heard c f (Some s) b w o = untried-sign c s b w o
+
+abbrev quiet-event : Event → Type 0
+quiet-event (heard f) = Unit {0}
+quiet-event tick = Unit {0}
+quiet-event (put f) = nmtIn f ≡ Some (record { command = Stop; node = 0 })
+
+pub still : (ls : SheetLines) (c : SlaveLines) (x : Event) (r : Reading) → r .at ≡ none → quiet-event x → read ls c r x .at ≡ none
+still ls c (heard f) r e q = subst (λ t. read ls c (record { at = t; booted = r .booted; word = r .word; once = r .once }) (heard f) .at ≡ none) (sym e) (untried-heard c f (signIn f (c .node)) (r .booted) (r .word) (r .once))
+still ls c tick r e q = subst (λ t. read ls c (record { at = t; booted = r .booted; word = r .word; once = r .once }) tick .at ≡ none) (sym e) refl
+still ls c (put f) r e q =
+    ap (λ m. putTo ls c f m r .at) q ∙ choose (λ (z : Reading). z .at ≡ none) (reaches (record { command = Stop; node = 0 }) (c .node) (ls .own)) (commanded Stop r) r e e
+
+pub still-idle : (ls : SheetLines) (h : List Event) (x : Event) (t : List Entry) (cs : List SlaveLines) → quiet-event x → Some-one (Idle ls h t) cs → Some-one (Idle ls (h ++ x ∷ []) t) cs
+still-idle ls h x t [] q k = absurd k
+still-idle ls h x t (c ∷ cs) q (inl p) = inl (p .0, p .1, ap (λ (r : Reading). r .at) (pushed ls c h x) ∙ still ls c x (reading ls c h) (p .2) q)
+still-idle ls h x t (c ∷ cs) q (inr p) = inr (still-idle ls h x t cs q p)
