@@ -13,7 +13,7 @@ use Rattle.std.specs.declared.option.Option.the-variants.{Some, None}
 use Rattle.std.proofs.shelf.Sums.{folded-push}
 use Rattle.std.proofs.shelf.Tests.{cases-eq, cases-bool, cond-true, cond-false, eq-eqb, ne-eqb}
 use Rattle.frames.specs.Contents.{Content}
-use Rattle.frames.specs.declared.nmt.Command.the-variants.{ResetNode, Stop}
+use Rattle.frames.specs.declared.nmt.Command.the-variants.{Stop}
 use Rattle.frames.specs.declared.sdo.Reply.{Reply}
 use Rattle.sheet.specs.Format.{SlaveLines, SheetLines}
 use Rattle.sheet.specs.Rules.{SlavesKeep}
@@ -34,6 +34,7 @@ use Rattle.master.specs.declared.types.Input.{Input}
 use Rattle.master.specs.declared.types.Input.the-variants as input
 use Rattle.master.specs.declared.types.Phase.{Phase}
 use Rattle.master.specs.declared.types.Phase.the-variants.{Running, StopDue, Halted}
+use Rattle.master.specs.declared.types.ResetKind.the-variants as reset
 use Rattle.master.specs.declared.types.Stage.{Stage}
 use Rattle.master.specs.declared.types.Stage.the-variants.{AwaitBoot, Ask, Asked, ListenState, ListenControl, Passed, Retry, ResetDue}
 use Rattle.master.specs.declared.types.Stepped.{Stepped}
@@ -121,8 +122,8 @@ left-by brought.Nothing s h = record { entries = refl; lines = refl; phase = inl
 left-by (brought.Missed l) s h =
     choose (Left true (brought.Missed l) s) (triesAnew l s) s (withPhase Halted s) (record { entries = refl; lines = refl; phase = inl h }) (record { entries = refl; lines = refl; phase = inr (refl, refl, tt) })
 left-by brought.Lost s h =
-    choose (Left true brought.Lost s) (s .lines .stopall) (withPhase StopDue s) (cond (s .lines .resetall) (withSweep (Begun ResetNode) s) s) (record { entries = refl; lines = refl; phase = inr (refl, refl, tt) })
-    (choose (Left true brought.Lost s) (s .lines .resetall) (withSweep (Begun ResetNode) s) s (record { entries = refl; lines = refl; phase = inl h }) (record { entries = refl; lines = refl; phase = inl h }))
+    choose (Left true brought.Lost s) (s .lines .stopall) (withPhase StopDue s) (cond (s .lines .resetall) (withSweep (Begun reset.Node) s) s) (record { entries = refl; lines = refl; phase = inr (refl, refl, tt) })
+    (choose (Left true brought.Lost s) (s .lines .resetall) (withSweep (Begun reset.Node) s) s (record { entries = refl; lines = refl; phase = inl h }) (record { entries = refl; lines = refl; phase = inl h }))
 
 pub left : (m : Bool) (b : Brought) (s : State) → s .phase ≡ Running → Left m b s (brings m b s)
 left true b s h = left-by b s h
@@ -178,8 +179,8 @@ put-back : (t : List Entry) (c d : SlaveLines) → length t ≡ 127 → 1 ≤ c 
 put-back t c d l a b low =
     ⊎-elim
     (λ (x : d .node ≡ c .node).
-        let here : entryOf (changed t c (entryOf t c)) c ≡ entryOf t c = entry-same t c (entryOf t c) l a b in
-        ap (λ n. getD (changed t c (entryOf t c)) (n - 1) fresh) x ∙ here ∙ ap (λ n. getD t (n - 1) fresh) (sym x))
+    let here : entryOf (changed t c (entryOf t c)) c ≡ entryOf t c = entry-same t c (entryOf t c) l a b in
+    ap (λ n. getD (changed t c (entryOf t c)) (n - 1) fresh) x ∙ here ∙ ap (λ n. getD t (n - 1) fresh) (sym x))
     (λ x. entry-other t c (entryOf t c) d a low x)
     (cases-eq (d .node) (c .node))
 
@@ -207,10 +208,10 @@ module _ (ls : SheetLines) (k : SlavesKeep (ls .own) 0 (ls .slaves)) (h : List E
       ⊎-elim
       (λ r. is-live ls (h ++ heard f ∷ []) v (q .lines) r (ap length (q .entries) ∙ changed-long t c (stepped c (entryOf t c) i .entry) long) there)
       (λ p.
-          let g = has m (ls .own) 0 (ls .slaves) c k e in
-          let none-here : tryOf (entryOf (v .entries) c .stage) ≡ none = ap (λ z. tryOf (entryOf z c .stage)) (q .entries) ∙ ap (λ z. tryOf (z .stage)) (entry-same t c (stepped c (entryOf t c) i .entry) long (g .low) (g .high)) ∙ ends c (entryOf t c) i (p .2) in
-          let read-none : reading ls c (h ++ heard f ∷ []) .at ≡ none = ap (λ z. z .at) (sym (every-found (Same ls (h ++ heard f ∷ []) (v .entries)) m (ls .slaves) c e there)) ∙ none-here in
-          is-dead ls (h ++ heard f ∷ []) v (q .lines) (p .1) (some-found (Idle ls (h ++ heard f ∷ []) (v .entries)) m (ls .slaves) c e (p .0, none-here, read-none)))
+      let g = has m (ls .own) 0 (ls .slaves) c k e in
+      let none-here : tryOf (entryOf (v .entries) c .stage) ≡ none = ap (λ z. tryOf (entryOf z c .stage)) (q .entries) ∙ ap (λ z. tryOf (z .stage)) (entry-same t c (stepped c (entryOf t c) i .entry) long (g .low) (g .high)) ∙ ends c (entryOf t c) i (p .2) in
+      let read-none : reading ls c (h ++ heard f ∷ []) .at ≡ none = ap (λ z. z .at) (sym (every-found (Same ls (h ++ heard f ∷ []) (v .entries)) m (ls .slaves) c e there)) ∙ none-here in
+      is-dead ls (h ++ heard f ∷ []) v (q .lines) (p .1) (some-found (Idle ls (h ++ heard f ∷ []) (v .entries)) m (ls .slaves) c e (p .0, none-here, read-none)))
       (q .phase)
 
   taken : (c : SlaveLines) → slaveBy m (ls .slaves) ≡ Some c → (i : Option Input) → inputOf c (entryOf t c .stage) f ≡ i → Agrees ls (h ++ heard f ∷ []) (takenBy c i now .1)

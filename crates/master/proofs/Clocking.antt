@@ -60,30 +60,38 @@ all-ticked own last (c ∷ cs) k s r l =
     let away : (d : SlaveLines) → 1 ≤ d .node → (d .node ≡ c .node → ⊥) → entryOf (v .entries) d ≡ entryOf t d = λ d a n. ap (λ z. entryOf z d) (q .entries) ∙ entry-other t c e d low a n in
     ⊎-elim
     (λ go.
-        let a = all-ticked own (c .node) cs (k .1) v (run-of (v .phase) go) long in
-        let back : After last (c ∷ cs) s (tickFrom cs v) = record {
-          lines = a .lines ∙ q .lines;
-          long = a .long;
-          below = λ d x y. a .below d x (omega arith) ∙ away d x (λ z. omega arith);
-          either =
-              ⊎-elim
-              (λ p. inl (p .0, (a .below c low (omega arith) ∙ here,
+    let a = all-ticked own (c .node) cs (k .1) v (run-of (v .phase) go) long in
+    let back : After last (c ∷ cs) s (tickFrom cs v) = record {
+      lines = a .lines ∙ q .lines;
+      long = a .long;
+      below = λ d x y. a .below d x (omega arith) ∙ away d x (λ z. omega arith);
+      either =
+          ⊎-elim
+          (λ p. inl (
+            p .0,
+            (
+              a .below c low (omega arith) ∙ here,
               every-zip (Ranged own (c .node)) (Ticked (v .entries) (tickFrom cs v .entries)) (Ticked t (tickFrom cs v .entries)) cs
-              (λ d z w. let over = z .above in w ∙ ap (λ x. stepped d x input.Tick .entry) (away d (omega arith) (λ x. omega arith))) (ranged own (c .node) cs (k .1)) (p .1))))
-              (λ p. inr (p .0, inr (some-map (Stops (v .entries) (tickFrom cs v .entries)) (Stops t (tickFrom cs v .entries)) own (c .node) cs
-              (λ d z w. let over = z .above in let same = away d (omega arith) (λ x. omega arith) in (w .0, w .1 ∙ ap (λ x. stepped d x input.Tick .entry) same, subst (λ x. Bad (stepped d x input.Tick .brought)) same (w .2))) (ranged own (c .node) cs (k .1)) (p .1))))
-              (a .either);
-        } in
-        subst (After last (c ∷ cs) s) (sym (cond-true _ _ _ go)) back)
+                  (λ d z w. let over = z .above in w ∙ ap (λ x. stepped d x input.Tick .entry) (away d (omega arith) (λ x. omega arith))) (ranged own (c .node) cs (k .1)) (p .1),
+            ),
+          ))
+          (λ p. inr (
+            p .0,
+            inr (some-map (Stops (v .entries) (tickFrom cs v .entries)) (Stops t (tickFrom cs v .entries)) own (c .node) cs
+                (λ d z w. let over = z .above in let same = away d (omega arith) (λ x. omega arith) in (w .0, w .1 ∙ ap (λ x. stepped d x input.Tick .entry) same, subst (λ x. Bad (stepped d x input.Tick .brought)) same (w .2))) (ranged own (c .node) cs (k .1)) (p .1)),
+          ))
+          (a .either);
+    } in
+    subst (After last (c ∷ cs) s) (sym (cond-true _ _ _ go)) back)
     (λ no.
-        let bad = ⊎-elim {C = (c .mandatory ≡ true) × (isRunning (v .phase) ≡ false) × Bad (stepped c (entryOf t c) input.Tick .brought)} (λ x. absurd (let y : true ≡ false = sym (ap isRunning x) ∙ no in let z : _≡_ {A = ℕ} 0 1 = cc in omega arith)) (λ x. x) (q .phase) in
-        let back : After last (c ∷ cs) s v = record {
-          lines = q .lines;
-          long = long;
-          below = λ d x y. away d x (λ z. omega arith);
-          either = inr (no, inl (bad .0, here, bad .2));
-        } in
-        subst (After last (c ∷ cs) s) (sym (cond-false _ _ _ no)) back)
+    let bad = ⊎-elim {C = (c .mandatory ≡ true) × (isRunning (v .phase) ≡ false) × Bad (stepped c (entryOf t c) input.Tick .brought)} (λ x. absurd (let y : true ≡ false = sym (ap isRunning x) ∙ no in let z : _≡_ {A = ℕ} 0 1 = cc in omega arith)) (λ x. x) (q .phase) in
+    let back : After last (c ∷ cs) s v = record {
+      lines = q .lines;
+      long = long;
+      below = λ d x y. away d x (λ z. omega arith);
+      either = inr (no, inl (bad .0, here, bad .2));
+    } in
+    subst (After last (c ∷ cs) s) (sym (cond-false _ _ _ no)) back)
     (cases-bool (isRunning (v .phase)))
 
 seen-ticked : (ls : SheetLines) (h : List Event) (t u : List Entry) (d : SlaveLines) → Ticked t u d → Same ls h t d → Same ls (h ++ tick ∷ []) u d
@@ -102,9 +110,9 @@ live-ticked ls k h t w l b n long same =
     ⊎-elim
     (λ p. is-live ls (h ++ tick ∷ []) u (a .lines) (p .0) (a .long) (every-zip (Ticked t (u .entries)) (Same ls h t) (Same ls (h ++ tick ∷ []) (u .entries)) (ls .slaves) (seen-ticked ls h t (u .entries)) (p .1) same))
     (λ p.
-        is-dead ls (h ++ tick ∷ []) u (a .lines) (p .0)
-        (some-zip (Same ls h t) (Stops t (u .entries)) (Idle ls (h ++ tick ∷ []) (u .entries)) (ls .slaves)
-        (λ d x y.
-            let gone : tryOf (entryOf (u .entries) d .stage) ≡ none = ap (λ (e : Entry). tryOf (e .stage)) (y .1) ∙ ends d (entryOf t d) input.Tick (y .2) in
-            (y .0, gone, ap (λ (r : Reading). r .at) (sym (seen-ticked ls h t (u .entries) d (y .1) x)) ∙ gone)) same (p .1)))
+    is-dead ls (h ++ tick ∷ []) u (a .lines) (p .0)
+    (some-zip (Same ls h t) (Stops t (u .entries)) (Idle ls (h ++ tick ∷ []) (u .entries)) (ls .slaves)
+    (λ d x y.
+    let gone : tryOf (entryOf (u .entries) d .stage) ≡ none = ap (λ (e : Entry). tryOf (e .stage)) (y .1) ∙ ends d (entryOf t d) input.Tick (y .2) in
+    (y .0, gone, ap (λ (r : Reading). r .at) (sym (seen-ticked ls h t (u .entries) d (y .1) x)) ∙ gone)) same (p .1)))
     (a .either)

@@ -11,7 +11,6 @@ use Rattle.std.specs.declared.option.Option.the-variants.{Some, None}
 use Rattle.std.proofs.shelf.Lists.{take-all}
 use Rattle.std.proofs.shelf.Sums.{countBy-le-length}
 use Rattle.std.proofs.shelf.Tests.{cond-true, cond-false, lt-ltb, le-ltb}
-use Rattle.frames.specs.declared.nmt.Command.{Command}
 use Rattle.sheet.specs.Format.{SlaveLines}
 use Rattle.master.specs.declared.types.Duty.{Duty}
 use Rattle.master.specs.declared.types.Entry.{Entry}
@@ -21,6 +20,7 @@ use Rattle.master.specs.declared.types.Plan.{Plan}
 use Rattle.master.specs.declared.types.Plan.the-variants as plan
 use Rattle.master.specs.declared.types.Quality.{Quality}
 use Rattle.master.specs.declared.types.Quality.the-variants as quality
+use Rattle.master.specs.declared.types.ResetKind.{ResetKind}
 use Rattle.master.specs.declared.types.Sweep.the-variants.{Begun}
 use Rattle.master.specs.Network.{State, holds, counted, going, firstDue, nextDue, orElse, singlePlan, sweepPlan, phasePlan, planned}
 
@@ -47,7 +47,7 @@ by-phase s Running h = refl
 by-phase s StopDue h = absurd (h refl)
 by-phase s Halted h = refl
 
-module _ (s : State) (c : Command) (n : ℕ) (run : s .phase ≡ StopDue → ⊥) (w : s .sweep ≡ Begun c) (e : n ≡ counted quality.Spared s) where
+module _ (s : State) (c : ResetKind) (n : ℕ) (run : s .phase ≡ StopDue → ⊥) (w : s .sweep ≡ Begun c) (e : n ≡ counted quality.Spared s) where
   pub begun-single : (p : Plan) → 0 < n → p ≡ singlePlan s c 0 → p ≡ planned s
   begun-single p h k = k ∙ sym (cond-true _ _ _ (lt-ltb 0 (counted quality.Spared s) (omega (arith, e)))) ∙ ap (sweepPlan s) (sym w) ∙ by-phase s (s .phase) run
 

@@ -11,7 +11,6 @@ use Rattle.frames.specs.declared.error_control.Sign.{Sign}
 use Rattle.frames.specs.declared.error_control.Sign.the-variants as sign
 use Rattle.frames.specs.declared.sdo.Reply.{Reply}
 use Rattle.sheet.specs.Format.{SlaveLines}
-use Rattle.frames.specs.declared.nmt.Command.the-variants.{ResetCommunication}
 use Rattle.master.specs.Checks.{runs, verdictOf, following, fromControl, fromSet, fromState, fromSerial, fromRevision, fromProduct, fromVendor}
 use Rattle.master.specs.Record.{Try, none, toAsk, asked, atState, atControl, passed, Reading, now-at, beaten, signed, judgedBy, waited, startedAt, onward, hasPassed, clears, owesStart, silentOrRunning}
 use Rattle.master.specs.Step.{stepped, onBeat, onSign, onReply, onTick, resetPut, requestPut, startPut, goneOn, decided, isPassed, isCleared, isSpared, mayRun}
@@ -21,6 +20,7 @@ use Rattle.master.specs.declared.types.Entry.{Entry}
 use Rattle.master.specs.declared.types.Letter.{Letter}
 use Rattle.master.specs.declared.types.Next.{Next}
 use Rattle.master.specs.declared.types.Next.the-variants as next
+use Rattle.master.specs.declared.types.ResetKind.the-variants as reset
 use Rattle.master.specs.declared.types.Stage.{Stage}
 use Rattle.master.specs.declared.types.Stage.the-variants.{AwaitBoot, Ask, Asked, ListenState, ListenControl, Passed, Retry, ResetDue}
 use Rattle.master.specs.declared.types.Stepped.{Stepped}
@@ -46,7 +46,7 @@ tryOf (ListenState left) = atState left
 tryOf (ListenControl left running) = atControl left running
 tryOf (Passed running started left) = passed running started left
 tryOf (Retry left) = none
-tryOf (ResetDue command) = none
+tryOf (ResetDue kind) = none
 
 abbrev pub seen : Entry → Reading
 seen e = record { at = tryOf (e .stage); booted = e .booted; word = e .word; once = e .once }
@@ -104,7 +104,7 @@ module _ (c : SlaveLines) (s : Sign) (w : Word) (b : Bool) (l : Option Letter) (
   stage-beat (AwaitBoot n) = refl
   stage-beat (Ask k) = ask-beat k
   stage-beat (Asked k n) = refl
-  stage-beat (ListenState n) = two (λ x. seen (made x w b l o)) (λ t. now-at t (seen (made (ListenState n) w b l o))) (runs s) (ListenControl (c .hb) true) (ResetDue ResetCommunication) (atControl (c .hb) true) none refl refl
+  stage-beat (ListenState n) = two (λ x. seen (made x w b l o)) (λ t. now-at t (seen (made (ListenState n) w b l o))) (runs s) (ListenControl (c .hb) true) (ResetDue reset.Communication) (atControl (c .hb) true) none refl refl
   stage-beat (ListenControl n r) = both seen (r && not (runs s)) _ _ _ _ refl refl
   stage-beat (Passed r t n) = refl
   stage-beat (Retry n) = refl

@@ -39,17 +39,19 @@ pub record Ranged (own last : ℕ) (c : SlaveLines) : Type 0 where
 
 pub ranged : (own last : ℕ) (cs : List SlaveLines) → SlavesKeep own last cs → Every (Ranged own last) cs
 ranged own last [] k = tt
-ranged own last (c ∷ cs) k =
-    (record { above = k .0 .ascends; high = k .0 .node-high; other = k .0 .other },
-    every-map (Ranged own (c .node)) (Ranged own last) cs (λ d r. let a = r .above in let b = k .0 .ascends in record { above = omega arith; high = r .high; other = r .other }) (ranged own (c .node) cs (k .1)))
+ranged own last (c ∷ cs) k = (
+  record { above = k .0 .ascends; high = k .0 .node-high; other = k .0 .other },
+  every-map (Ranged own (c .node)) (Ranged own last) cs (λ d r. let a = r .above in let b = k .0 .ascends in record { above = omega arith; high = r .high; other = r .other }) (ranged own (c .node) cs (k .1)),
+)
 
 -- a slave is found by its node
 pub found : (n own last : ℕ) (cs : List SlaveLines) → SlavesKeep own last cs → Every (λ d. d .node ≡ n → slaveBy n cs ≡ Some d) cs
 found n own last [] k = tt
-found n own last (c ∷ cs) k =
-    (λ e. cond-true _ _ _ (eq-eqb (c .node) n e),
-    every-zip (Ranged own (c .node)) (λ d. d .node ≡ n → slaveBy n cs ≡ Some d) (λ d. d .node ≡ n → slaveBy n (c ∷ cs) ≡ Some d) cs
-    (λ d r f e. let a = r .above in cond-false _ _ _ (ne-eqb (c .node) n (λ x. omega arith)) ∙ f e) (ranged own (c .node) cs (k .1)) (found n own (c .node) cs (k .1)))
+found n own last (c ∷ cs) k = (
+  λ e. cond-true _ _ _ (eq-eqb (c .node) n e),
+  every-zip (Ranged own (c .node)) (λ d. d .node ≡ n → slaveBy n cs ≡ Some d) (λ d. d .node ≡ n → slaveBy n (c ∷ cs) ≡ Some d) cs
+      (λ d r f e. let a = r .above in cond-false _ _ _ (ne-eqb (c .node) n (λ x. omega arith)) ∙ f e) (ranged own (c .node) cs (k .1)) (found n own (c .node) cs (k .1)),
+)
 
 -- who is found has the node, and is listed
 pub record Has (own n : ℕ) (c : SlaveLines) : Type 0 where
@@ -63,8 +65,8 @@ has n own last [] c k e = let z : _≡_ {A = ℕ} 0 1 = cc in absurd (omega arit
 has n own last (d ∷ ds) c k e =
     ⊎-elim
     (λ t.
-        let same : d ≡ c = let y = sym (cond-true _ (Some d) (slaveBy n ds) t) ∙ e in cc in
-        subst (Has own n) same (record { node = eqb-true (d .node) n t; low = k .0 .node-low; high = k .0 .node-high; other = k .0 .other }))
+    let same : d ≡ c = let y = sym (cond-true _ (Some d) (slaveBy n ds) t) ∙ e in cc in
+    subst (Has own n) same (record { node = eqb-true (d .node) n t; low = k .0 .node-low; high = k .0 .node-high; other = k .0 .other }))
     (λ f. has n own (d .node) ds c (k .1) (sym (cond-false _ (Some d) (slaveBy n ds) f) ∙ e))
     (cases-bool (eqb (d .node) n))
 
@@ -90,9 +92,9 @@ module _ (g : SlaveLines → Entry → Entry) (n own : ℕ) (cs : List SlaveLine
       let h = has n own 0 cs c k e in
       ⊎-elim
       (λ x.
-          let same : d ≡ c = let y = sym (f x) ∙ e in cc in
-          subst (λ z. entryOf (changed t c (g c (entryOf t c))) z ≡ cond (eqb (z .node) n) (g z (entryOf t z)) (entryOf t z)) (sym same)
-          (entry-same t c (g c (entryOf t c)) long (h .low) (h .high) ∙ sym (cond-true _ _ _ (eq-eqb (c .node) n (h .node)))))
+      let same : d ≡ c = let y = sym (f x) ∙ e in cc in
+      subst (λ z. entryOf (changed t c (g c (entryOf t c))) z ≡ cond (eqb (z .node) n) (g z (entryOf t z)) (entryOf t z)) (sym same)
+      (entry-same t c (g c (entryOf t c)) long (h .low) (h .high) ∙ sym (cond-true _ _ _ (eq-eqb (c .node) n (h .node)))))
       (λ x. entry-other t c (g c (entryOf t c)) d (h .low) (let a = r .above in omega arith) (λ y. x (y ∙ h .node)) ∙ sym (cond-false _ _ _ (ne-eqb (d .node) n x)))
       (cases-eq (d .node) n)
 
@@ -117,8 +119,9 @@ applied-long g (c ∷ cs) t l = applied-long g cs (applied g t c) (changed-long 
 pub spread-all : (g : Change) (own last : ℕ) (cs : List SlaveLines) (t : List Entry) → SlavesKeep own last cs → length t ≡ 127 → Every (λ d. entryOf (appliedAll g cs t) d ≡ changeBy g d (entryOf t d)) cs
 spread-all g own last [] t k l = tt
 spread-all g own last (c ∷ cs) t k l =
-    let u = changeBy g c (entryOf t c) in
-    (applied-below g own (c .node) cs (applied g t c) (k .1) c (k .0 .node-low) (omega arith) ∙ entry-same t c u l (k .0 .node-low) (k .0 .node-high),
-    every-zip (Ranged own (c .node)) (λ d. entryOf (appliedAll g cs (applied g t c)) d ≡ changeBy g d (entryOf (applied g t c) d)) (λ d. entryOf (appliedAll g cs (applied g t c)) d ≡ changeBy g d (entryOf t d)) cs
-    (λ d r e. let a = r .above in let low = k .0 .node-low in e ∙ ap (changeBy g d) (entry-other t c u d low (omega arith) (λ x. omega arith)))
-    (ranged own (c .node) cs (k .1)) (spread-all g own (c .node) cs (applied g t c) (k .1) (changed-long t c u l)))
+    let u = changeBy g c (entryOf t c) in (
+      applied-below g own (c .node) cs (applied g t c) (k .1) c (k .0 .node-low) (omega arith) ∙ entry-same t c u l (k .0 .node-low) (k .0 .node-high),
+      every-zip (Ranged own (c .node)) (λ d. entryOf (appliedAll g cs (applied g t c)) d ≡ changeBy g d (entryOf (applied g t c) d)) (λ d. entryOf (appliedAll g cs (applied g t c)) d ≡ changeBy g d (entryOf t d)) cs
+          (λ d r e. let a = r .above in let low = k .0 .node-low in e ∙ ap (changeBy g d) (entry-other t c u d low (omega arith) (λ x. omega arith)))
+          (ranged own (c .node) cs (k .1)) (spread-all g own (c .node) cs (applied g t c) (k .1) (changed-long t c u l)),
+    )

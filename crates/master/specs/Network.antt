@@ -38,6 +38,8 @@ use Rattle.master.specs.declared.types.Plan.{Plan}
 use Rattle.master.specs.declared.types.Plan.the-variants as plan
 use Rattle.master.specs.declared.types.Quality.{Quality}
 use Rattle.master.specs.declared.types.Quality.the-variants as quality
+use Rattle.master.specs.declared.types.ResetKind.{ResetKind}
+use Rattle.master.specs.declared.types.ResetKind.the-variants as reset
 use Rattle.master.specs.declared.types.Stage.{Stage}
 use Rattle.master.specs.declared.types.Stage.the-variants.{AwaitBoot, Ask, Asked, ListenState, ListenControl, Passed, Retry, ResetDue}
 use Rattle.master.specs.declared.types.Sweep.{Sweep}
@@ -59,7 +61,7 @@ abbrev pub freshState : SheetLines → State
 freshState ls = record {
   lines = ls;
   entries = appliedAll change.Begin (ls .slaves) (replicate 127 fresh);
-  sweep = Begun command.ResetCommunication;
+  sweep = Begun reset.Communication;
   last = 0;
   started = false;
   clock = 0;
@@ -137,7 +139,7 @@ triesAnew l s = isNoAnswer l && (eqb (s .lines .boottime) 0 || leb (s .clock) (s
 abbrev pub broughtBy : Brought → State → State
 broughtBy brought.Nothing s = s
 broughtBy (brought.Missed l) s = cond (triesAnew l s) s (withPhase Halted s)
-broughtBy brought.Lost s = cond (s .lines .stopall) (withPhase StopDue s) (cond (s .lines .resetall) (withSweep (Begun command.ResetNode) s) s)
+broughtBy brought.Lost s = cond (s .lines .stopall) (withPhase StopDue s) (cond (s .lines .resetall) (withSweep (Begun reset.Node) s) s)
 
 -- An optional slave brings nothing.
 abbrev pub brings : Bool → Brought → State → State
@@ -167,7 +169,7 @@ answerTo c (ListenState left) f = None
 answerTo c (ListenControl left running) f = None
 answerTo c (Passed running started left) f = None
 answerTo c (Retry left) f = None
-answerTo c (ResetDue command) f = None
+answerTo c (ResetDue kind) f = None
 
 abbrev pub signOr : Option Sign → Option Input → Option Input
 signOr None i = i
@@ -230,7 +232,7 @@ abbrev pub startsAll : State → Bool
 startsAll s = s .lines .startall && (not (s .started) && eqb (counted quality.Passed s) (length (s .lines .slaves)))
 
 abbrev pub servePlan : State → ℕ → Duty → Plan
-servePlan s n (duty.Reset command) = plan.Serve n (duty.Reset command)
+servePlan s n (duty.Reset kind) = plan.Serve n (duty.Reset kind)
 servePlan s n (duty.Request k) = plan.Serve n (duty.Request k)
 servePlan s n duty.Start = cond (startsAll s) (plan.StartAll n) (plan.Serve n duty.Start)
 
@@ -241,12 +243,12 @@ dutyPlanFrom s (Some p) = servePlan s (p .0) (p .1)
 abbrev pub dutyPlan : State → Plan
 dutyPlan s = dutyPlanFrom s (nextDue s)
 
-abbrev pub singleOr : Command → Option ℕ → Plan → Plan
+abbrev pub singleOr : ResetKind → Option ℕ → Plan → Plan
 singleOr c None p = p
 singleOr c (Some n) p = plan.ResetOne c n
 
 -- single resets go on after the node n; with none left the duties come
-abbrev pub singlePlan : State → Command → ℕ → Plan
+abbrev pub singlePlan : State → ResetKind → ℕ → Plan
 singlePlan s c n = singleOr c (singleAfter s (127 - n) n) (dutyPlan s)
 
 abbrev pub sweepPlan : State → Sweep → Plan
@@ -263,11 +265,15 @@ phasePlan s Halted = sweepPlan s (s .sweep)
 abbrev pub planned : State → Plan
 planned s = phasePlan s (s .phase)
 
+abbrev pub commandOf : ResetKind → Command
+commandOf reset.Node = command.ResetNode
+commandOf reset.Communication = command.ResetCommunication
+
 abbrev pub nmtTo : Command → ℕ → Content
 nmtTo c n = nmtContent (record { command = c; node = n })
 
 abbrev pub dutyContent : List SlaveLines → ℕ → Duty → Option Content
-dutyContent cs n (duty.Reset c) = Some (nmtTo c n)
+dutyContent cs n (duty.Reset k) = Some (nmtTo (commandOf k) n)
 dutyContent cs n (duty.Request k) = mapped (λ c. requestContent (requestOf c k)) (slaveBy n cs)
 dutyContent cs n duty.Start = Some (nmtTo command.Start n)
 
@@ -275,8 +281,8 @@ dutyContent cs n duty.Start = Some (nmtTo command.Start n)
 abbrev pub planContent : List SlaveLines → Plan → Option Content
 planContent cs plan.Nothing = None
 planContent cs plan.Stop = Some (nmtTo command.Stop 0)
-planContent cs (plan.ResetAll c) = Some (nmtTo c 0)
-planContent cs (plan.ResetOne c n) = Some (nmtTo c n)
+planContent cs (plan.ResetAll k) = Some (nmtTo (commandOf k) 0)
+planContent cs (plan.ResetOne k n) = Some (nmtTo (commandOf k) n)
 planContent cs (plan.Serve n d) = dutyContent cs n d
 planContent cs (plan.StartAll n) = Some (nmtTo command.Start 0)
 
@@ -286,12 +292,12 @@ appliedTo g (Some c) t = applied g t c
 
 -- what a duty does to its slave's entry
 abbrev pub changeFor : ℕ → Duty → Change
-changeFor wait (duty.Reset command) = change.Reset
+changeFor wait (duty.Reset kind) = change.Reset
 changeFor wait (duty.Request k) = change.Request wait
 changeFor wait duty.Start = change.Start
 
 abbrev pub isStart : Duty → Bool
-isStart (duty.Reset command) = false
+isStart (duty.Reset kind) = false
 isStart (duty.Request k) = false
 isStart duty.Start = true
 

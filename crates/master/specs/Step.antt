@@ -6,8 +6,6 @@ use Rattle.std.specs.declared.option.Option.{Option}
 use Rattle.std.specs.declared.option.Option.the-variants.{Some, None}
 use Rattle.frames.specs.declared.error_control.Sign.{Sign}
 use Rattle.frames.specs.declared.error_control.Sign.the-variants as sign
-use Rattle.frames.specs.declared.nmt.Command.{Command}
-use Rattle.frames.specs.declared.nmt.Command.the-variants.{ResetNode, ResetCommunication}
 use Rattle.frames.specs.declared.sdo.Reply.{Reply}
 use Rattle.sheet.specs.Format.{SlaveLines}
 use Rattle.master.specs.Checks.{runs, unanswered, verdictOf, following}
@@ -24,6 +22,7 @@ use Rattle.master.specs.declared.types.Letter.{Letter}
 use Rattle.master.specs.declared.types.Letter.the-variants as letter
 use Rattle.master.specs.declared.types.Next.{Next}
 use Rattle.master.specs.declared.types.Next.the-variants as next
+use Rattle.master.specs.declared.types.ResetKind.the-variants as reset
 use Rattle.master.specs.declared.types.Stage.{Stage}
 use Rattle.master.specs.declared.types.Stage.the-variants.{AwaitBoot, Ask, Asked, ListenState, ListenControl, Passed, Retry, ResetDue}
 use Rattle.master.specs.declared.types.Stepped.{Stepped}
@@ -58,7 +57,7 @@ missedBy l e = record {
 -- A loss: the result is E, and a reset of the slave is due.
 abbrev pub lostBy : Entry → Stepped
 lostBy e = record {
-  entry = record { stage = ResetDue ResetNode; word = word.Loss; booted = e .booted; result = Some letter.NoHeartbeat; once = e .once };
+  entry = record { stage = ResetDue reset.Node; word = word.Loss; booted = e .booted; result = Some letter.NoHeartbeat; once = e .once };
   brought = brought.Lost;
 }
 
@@ -83,11 +82,11 @@ abbrev pub onBeat : SlaveLines → Sign → Stage → Entry → Entry
 onBeat c s (AwaitBoot left) e = e
 onBeat c s (Ask k) e = e
 onBeat c s (Asked k left) e = e
-onBeat c s (ListenState left) e = to (cond (runs s) (ListenControl (c .hb) true) (ResetDue ResetCommunication)) e
-onBeat c s (ListenControl left running) e = cond (running && not (runs s)) (to (ResetDue ResetCommunication) e) (passedBy c running e)
+onBeat c s (ListenState left) e = to (cond (runs s) (ListenControl (c .hb) true) (ResetDue reset.Communication)) e
+onBeat c s (ListenControl left running) e = cond (running && not (runs s)) (to (ResetDue reset.Communication) e) (passedBy c running e)
 onBeat c s (Passed running started left) e = to (Passed running started (c .hb)) e
 onBeat c s (Retry left) e = e
-onBeat c s (ResetDue command) e = cond (c .keep && runs s) (to (Ask Kind) e) e
+onBeat c s (ResetDue kind) e = cond (c .keep && runs s) (to (Ask Kind) e) e
 
 abbrev pub onSign : SlaveLines → Sign → Entry → Entry
 onSign c sign.BootUp e = bootedBy e
@@ -108,7 +107,7 @@ onReply c r (ListenState left) e = quietly e
 onReply c r (ListenControl left running) e = quietly e
 onReply c r (Passed running started left) e = quietly e
 onReply c r (Retry left) e = quietly e
-onReply c r (ResetDue command) e = quietly e
+onReply c r (ResetDue kind) e = quietly e
 
 -- A tick lowers a wait, and one that is at its last tick runs out.
 abbrev pub onTick : SlaveLines → Stage → Entry → Stepped
@@ -122,7 +121,7 @@ onTick c (Passed running started n) e =
     cond (eqb (c .hb) 0) (quietly e)
     (cond (ltb 1 n) (quietly (to (Passed running started (n - 1)) e)) (lostBy e))
 onTick c (Retry n) e = quietly (to (cond (ltb 1 n) (Retry (n - 1)) (Ask Kind)) e)
-onTick c (ResetDue command) e = quietly e
+onTick c (ResetDue kind) e = quietly e
 
 -- The step of an entry: it looks at the slave's own lines and the one input alone.
 abbrev pub stepped : SlaveLines → Entry → Input → Stepped
@@ -142,7 +141,7 @@ requested wait (ListenState left) e = e
 requested wait (ListenControl left running) e = e
 requested wait (Passed running started left) e = e
 requested wait (Retry left) e = e
-requested wait (ResetDue command) e = e
+requested wait (ResetDue kind) e = e
 
 -- The request of its check is put: the sheet's wait begins.
 abbrev pub requestPut : ℕ → Entry → Entry
@@ -156,7 +155,7 @@ startedFrom (ListenState left) e = e
 startedFrom (ListenControl left running) e = e
 startedFrom (Passed running started left) e = to (Passed running true left) e
 startedFrom (Retry left) e = e
-startedFrom (ResetDue command) e = e
+startedFrom (ResetDue kind) e = e
 
 -- A start put that names or covers the slave: it is owed none until it passes anew.
 abbrev pub startPut : Entry → Entry
@@ -170,7 +169,7 @@ isPassed (ListenState left) = false
 isPassed (ListenControl left running) = false
 isPassed (Passed running started left) = true
 isPassed (Retry left) = false
-isPassed (ResetDue command) = false
+isPassed (ResetDue kind) = false
 
 -- A mandatory slave is cleared while it has passed, an optional one from its first pass or first missed check on.
 abbrev pub isCleared : SlaveLines → Entry → Bool
@@ -201,4 +200,4 @@ dutyOf go (ListenState left) = None
 dutyOf go (ListenControl left running) = None
 dutyOf go (Passed running started left) = startDue go running started
 dutyOf go (Retry left) = None
-dutyOf go (ResetDue command) = Some (duty.Reset command)
+dutyOf go (ResetDue kind) = Some (duty.Reset kind)

@@ -8,7 +8,7 @@ ghost use Rattle.std.specs.Slices.{found};
 ghost use Rattle.frames.specs.Contents.{contentOf};
 ghost use Rattle.sheet.specs.Sheets.{linesOf};
 ghost use Rattle.sheet.specs.Views.{slaveOf};
-ghost use Rattle.master.specs.Network.{freshState, isRunning, isHalted, slaveBy, holds, counted, going, resultOf, triesAnew, broughtBy, stepIn, ticked, State, inputAt, heardBy, sweepsTo, singleAfter, firstDue, nextDue, startsAll, dutyPlan, singlePlan, planned, nmtTo, dutyContent, planContent, withEntries, appliedTo, changeFor, isStart, carriedOut};
+ghost use Rattle.master.specs.Network.{freshState, isRunning, isHalted, slaveBy, holds, counted, going, resultOf, triesAnew, broughtBy, stepIn, ticked, State, inputAt, heardBy, sweepsTo, singleAfter, firstDue, nextDue, startsAll, dutyPlan, singlePlan, planned, commandOf, nmtTo, dutyContent, planContent, withEntries, appliedTo, changeFor, isStart, carriedOut};
 ghost use Rattle.master.specs.Table.{appliedAll};
 ghost use Rattle.master.specs.Views.{view, listed, blank};
 use crate::checks::request_of;
@@ -25,6 +25,7 @@ use crate::types::Letter;
 use crate::types::Phase;
 use crate::types::Plan;
 use crate::types::Quality;
+use crate::types::ResetKind;
 use crate::types::Stage;
 use crate::types::Sweep;
 use frames::error_control::Sign;
@@ -46,6 +47,15 @@ pub struct Network {
     // ticks since the session began
     clock: u32,
     phase: Phase,
+}
+
+fn command_of(reset: ResetKind) -> Command
+    ensures { λ r. ⌜ r ≡ commandOf reset ⌝ }
+{
+    match reset {
+        ResetKind::Node => Command::ResetNode,
+        ResetKind::Communication => Command::ResetCommunication,
+    }
 }
 
 fn nmt(command: Command, node: u8) -> Frame
@@ -154,7 +164,7 @@ impl Network {
                     self.phase = Phase::StopDue;
                 } else if self.sheet.resetall {
                     self.sweep = Sweep::Begun {
-                        command: Command::ResetNode,
+                        reset: ResetKind::Node,
                     };
                 }
             }
@@ -337,11 +347,11 @@ impl Network {
         }
     }
 
-    fn single_plan(&self, command: Command, passed: u8) -> Plan
-        ensures { λ r. ⌜ r ≡ singlePlan (view (now (self .entry))) command passed ⌝ }
+    fn single_plan(&self, reset: ResetKind, passed: u8) -> Plan
+        ensures { λ r. ⌜ r ≡ singlePlan (view (now (self .entry))) reset passed ⌝ }
     {
         match self.single_after(passed) {
-            Some(node) => Plan::ResetOne { command, node },
+            Some(node) => Plan::ResetOne { reset, node },
             None => self.duty_plan(),
         }
     }
@@ -353,14 +363,14 @@ impl Network {
         match (self.phase, self.sweep) {
             (Phase::StopDue, _) => Plan::Stop,
             (_, Sweep::Over) => self.duty_plan(),
-            (_, Sweep::Begun { command }) => {
+            (_, Sweep::Begun { reset }) => {
                 if self.count(Quality::Spared) > 0 {
-                    self.single_plan(command, 0)
+                    self.single_plan(reset, 0)
                 } else {
-                    Plan::ResetAll { command }
+                    Plan::ResetAll { reset }
                 }
             }
-            (_, Sweep::Singles { command, passed }) => self.single_plan(command, passed),
+            (_, Sweep::Singles { reset, passed }) => self.single_plan(reset, passed),
         }
     }
 
@@ -368,7 +378,7 @@ impl Network {
         ensures { λ r. ⌜ mapped contentOf r ≡ dutyContent (listed (now (self .entry))) node duty ⌝ }
     {
         match duty {
-            Duty::Reset(command) => Some(nmt(command, node)),
+            Duty::Reset(reset) => Some(nmt(command_of(reset), node)),
             Duty::Request(check) => {
                 let place = self.place_of(node)?;
                 Some(request_of(slave_at(&self.sheet, place), check).frame())
@@ -384,8 +394,8 @@ impl Network {
         match plan {
             Plan::Nothing => None,
             Plan::Stop => Some(nmt(Command::Stop, 0)),
-            Plan::ResetAll { command } => Some(nmt(command, 0)),
-            Plan::ResetOne { command, node } => Some(nmt(command, node)),
+            Plan::ResetAll { reset } => Some(nmt(command_of(reset), 0)),
+            Plan::ResetOne { reset, node } => Some(nmt(command_of(reset), node)),
             Plan::Serve { node, duty } => self.duty_frame(node, duty),
             Plan::StartAll { .. } => Some(nmt(Command::Start, 0)),
         }
@@ -431,10 +441,10 @@ impl Network {
                 self.apply_all(Change::Reset);
                 self.sweep = Sweep::Over;
             }
-            Plan::ResetOne { command, node } => {
+            Plan::ResetOne { reset, node } => {
                 self.apply_to(node, Change::Reset);
                 self.sweep = Sweep::Singles {
-                    command,
+                    reset,
                     passed: node,
                 };
             }
@@ -456,7 +466,7 @@ impl Network {
             sheet,
             table: Table::new(),
             sweep: Sweep::Begun {
-                command: Command::ResetCommunication,
+                reset: ResetKind::Communication,
             },
             last: 0,
             started: false,

@@ -17,12 +17,12 @@ use crate::types::Entry;
 use crate::types::Input;
 use crate::types::Letter;
 use crate::types::Next;
+use crate::types::ResetKind;
 use crate::types::Stage;
 use crate::types::Stepped;
 use crate::types::Verdict;
 use crate::types::Word;
 use frames::error_control::Sign;
-use frames::nmt::Command;
 use frames::sdo::Reply;
 use sheet::Slave;
 
@@ -78,7 +78,7 @@ fn lost(e: Entry) -> Stepped
     Stepped {
         entry: Entry {
             stage: Stage::ResetDue {
-                command: Command::ResetNode,
+                reset: ResetKind::Node,
             },
             word: Word::Loss,
             result: Some(Letter::NoHeartbeat),
@@ -144,11 +144,11 @@ fn boot_heard(e: Entry) -> Entry
     }
 }
 
-fn reset_due(e: Entry, command: Command) -> Entry
-    ensures { λ r. ⌜ r ≡ to (stages.ResetDue command) e ⌝ }
+fn reset_due(e: Entry, reset: ResetKind) -> Entry
+    ensures { λ r. ⌜ r ≡ to (stages.ResetDue reset) e ⌝ }
 {
     Entry {
-        stage: Stage::ResetDue { command },
+        stage: Stage::ResetDue { reset },
         ..e
     }
 }
@@ -165,7 +165,7 @@ fn state_heard(e: Entry, c: &Slave, sign: Sign) -> Entry
             ..e
         }
     } else {
-        reset_due(e, Command::ResetCommunication)
+        reset_due(e, ResetKind::Communication)
     }
 }
 
@@ -173,7 +173,7 @@ fn control_heard(e: Entry, c: &Slave, running: bool, sign: Sign) -> Entry
     ensures { λ r. ⌜ r ≡ onBeat (slaveOf (now (c .entry))) sign (stages.ListenControl 0 running) e ⌝ }
 {
     if running && !is_running(sign) {
-        reset_due(e, Command::ResetCommunication)
+        reset_due(e, ResetKind::Communication)
     } else {
         passed(e, c, running)
     }
@@ -421,7 +421,7 @@ pub(crate) fn duty_of(e: &Entry, go: bool) -> Option<Duty>
     ensures { λ r. ⌜ r ≡ dutyOf go (now (e .entry) .stage) ⌝ }
 {
     match e.stage {
-        Stage::ResetDue { command } => Some(Duty::Reset(command)),
+        Stage::ResetDue { reset } => Some(Duty::Reset(reset)),
         Stage::Ask { check } => Some(Duty::Request(check)),
         Stage::Passed {
             running: false,

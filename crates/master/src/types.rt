@@ -1,7 +1,13 @@
 // What the master keeps of its slaves, and what can happen to them.
 use frames::error_control::Sign;
-use frames::nmt::Command;
 use frames::sdo::Reply;
+
+// The two resets: of the node, 81h, and of its communication, 82h.
+#[derive(Clone, Copy)]
+pub enum ResetKind {
+    Node,
+    Communication,
+}
 
 // A check of a slave's try that asks by a request and waits for the answer.
 #[derive(Clone, Copy)]
@@ -93,7 +99,7 @@ pub enum Stage {
     },
     // a reset of its own is due
     ResetDue {
-        command: Command,
+        reset: ResetKind,
     },
 }
 
@@ -148,7 +154,7 @@ pub enum Next {
 // What a slave is owed.
 #[derive(Clone, Copy)]
 pub enum Duty {
-    Reset(Command),
+    Reset(ResetKind),
     Request(Check),
     Start,
 }
@@ -181,9 +187,9 @@ pub enum Quality {
 pub enum Sweep {
     Over,
     // nothing is put yet
-    Begun { command: Command },
+    Begun { reset: ResetKind },
     // one by one; `passed` is the last node that was come to
-    Singles { command: Command, passed: u8 },
+    Singles { reset: ResetKind, passed: u8 },
 }
 
 #[derive(Clone, Copy)]
@@ -198,8 +204,8 @@ pub enum Phase {
 pub enum Plan {
     Nothing,
     Stop,
-    ResetAll { command: Command },
-    ResetOne { command: Command, node: u8 },
+    ResetAll { reset: ResetKind },
+    ResetOne { reset: ResetKind, node: u8 },
     // a duty to the slave of this node
     Serve { node: u8, duty: Duty },
     // the start of all, at the turn of the slave of this node
