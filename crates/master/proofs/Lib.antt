@@ -3,6 +3,7 @@ pub mod Clocking
 pub mod Hearing
 pub mod Origins
 pub mod Planning
+pub mod Putting
 pub mod Seeing
 pub mod Setting
 pub mod Spread
