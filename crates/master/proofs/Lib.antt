@@ -9,3 +9,4 @@ pub mod Setting
 pub mod Spread
 pub mod Ticking
 pub mod Walking
+pub mod Working

@@ -36,7 +36,7 @@ pub record Owed (s : State) (n : ℕ) (d : Duty) : Type 0 where
 
 abbrev pub Origin : State → Plan → Type 0
 Origin s plan.Nothing = Unit {0}
-Origin s plan.Stop = Unit {0}
+Origin s plan.Stop = s .phase ≡ StopDue
 Origin s (plan.ResetAll k) = counted quality.Spared s ≤ 0
 Origin s (plan.ResetOne k n) = (1 ≤ n) × (sweepsTo s n ≡ true)
 Origin s (plan.Serve n d) = Owed s n d
@@ -121,11 +121,11 @@ module _ (s : State) (k : SlavesKeep (s .lines .own) 0 (s .lines .slaves)) where
       (cases-bool (ltb 0 (counted quality.Spared s)))
   sweep-origin (Singles r m) = single-origin r m
 
-  phase-origin : (p : Phase) → Origin s (phasePlan s p)
-  phase-origin Running = sweep-origin (s .sweep)
-  phase-origin StopDue = tt
-  phase-origin Halted = sweep-origin (s .sweep)
+  phase-origin : (p : Phase) → s .phase ≡ p → Origin s (phasePlan s p)
+  phase-origin Running e = sweep-origin (s .sweep)
+  phase-origin StopDue e = e
+  phase-origin Halted e = sweep-origin (s .sweep)
 
   -- what held when a plan was made
   pub origin : Origin s (planned s)
-  origin = phase-origin (s .phase)
+  origin = phase-origin (s .phase) refl
