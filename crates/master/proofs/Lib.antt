@@ -1,6 +1,7 @@
 pub mod Agreement
 pub mod Clocking
 pub mod Hearing
+pub mod Leading
 pub mod Origins
 pub mod Planning
 pub mod Putting

@@ -92,13 +92,13 @@ module _ (ls : SheetLines) (k : SlavesKeep (ls .own) 0 (ls .slaves)) (h : List E
       let f : Content = requestContent (requestOf c q) in
       put-one ls k h t long same (change.Request (ls .wait)) f m
       (λ d e r.
-          let same-slave : c ≡ d = let y = sym (o .listed) ∙ e in cc in
-          let x : Entry = entryOf t c in
-          let at : x .stage ≡ Ask q = ask-due _ (x .stage) q (o .due) in
-          let here : seen (requestPut (ls .wait) x) ≡ read ls c (seen x) (put f) =
-              subst (λ z. seen (requested (ls .wait) z (made z (x .word) (x .booted) (x .result) (x .once))) ≡ read ls c (seen (made z (x .word) (x .booted) (x .result) (x .once))) (put f)) (sym at)
-              (sym (read-own ls c (x .booted) (x .word) (x .once) q)) in
-          subst (λ z. seen (requestPut (ls .wait) (entryOf t z)) ≡ read ls z (seen (entryOf t z)) (put f)) same-slave here)
+      let same-slave : c ≡ d = let y = sym (o .listed) ∙ e in cc in
+      let x : Entry = entryOf t c in
+      let at : x .stage ≡ Ask q = ask-due _ (x .stage) q (o .due) in
+      let here : seen (requestPut (ls .wait) x) ≡ read ls c (seen x) (put f) =
+      subst (λ z. seen (requested (ls .wait) z (made z (x .word) (x .booted) (x .result) (x .once))) ≡ read ls c (seen (made z (x .word) (x .booted) (x .result) (x .once))) (put f)) (sym at)
+      (sym (read-own ls c (x .booted) (x .word) (x .once) q)) in
+      subst (λ z. seen (requestPut (ls .wait) (entryOf t z)) ≡ read ls z (seen (entryOf t z)) (put f)) same-slave here)
       (λ d r x z. read-other ls d (requestOf c q) (λ y. x (y ∙ node q c ∙ has m (ls .own) 0 (ls .slaves) c k (o .listed) .node)) z)
     where
       node : (q : Check) (c : SlaveLines) → requestOf c q .node ≡ c .node
