@@ -1,4 +1,5 @@
 pub mod Agreement
+pub mod Clearing
 pub mod Clocking
 pub mod Hearing
 pub mod Leading
