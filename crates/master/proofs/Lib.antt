@@ -1,6 +1,7 @@
 pub mod Agreement
 pub mod Clearing
 pub mod Clocking
+pub mod Fairness
 pub mod Hearing
 pub mod Leading
 pub mod Origins
