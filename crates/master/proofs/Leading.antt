@@ -99,7 +99,7 @@ module _ (ls : SheetLines) (k : SlavesKeep (ls .own) 0 (ls .slaves)) where
   call-agrees h m work a = work-agrees h (m .net) (m .port) a
   call-agrees h m take a = same-agrees h (m .net) a
 
-  getD-fresh : (n i : ℕ) → getD (replicate n fresh-entry) i fresh-entry ≡ fresh-entry
+  pub getD-fresh : (n i : ℕ) → getD (replicate n fresh-entry) i fresh-entry ≡ fresh-entry
   getD-fresh n i = ⊎-elim (λ h. getD-replicate n i fresh-entry fresh-entry h) (λ h. getD-past (replicate n fresh-entry) i fresh-entry (omega (arith, length-replicate n fresh-entry))) (cases-lt i n)
 
   begin-seen : (d : SlaveLines) (e : Entry) → e ≡ fresh-entry → seen (changeBy change.Begin d e) ≡ unread

@@ -3,6 +3,7 @@ pub mod Clearing
 pub mod Clocking
 pub mod Fairness
 pub mod Hearing
+pub mod Lasting
 pub mod Leading
 pub mod Origins
 pub mod Planning

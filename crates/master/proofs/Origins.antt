@@ -42,10 +42,10 @@ Origin s (plan.ResetOne k n) = (1 ≤ n) × (sweepsTo s n ≡ true)
 Origin s (plan.Serve n d) = Owed s n d
 Origin s (plan.StartAll n) = Owed s n duty.Start × (startsAll s ≡ true)
 
-abbrev Known : List SlaveLines → SlaveLines → Type 0
+abbrev pub Known : List SlaveLines → SlaveLines → Type 0
 Known cs d = slaveBy (d .node) cs ≡ Some d
 
-known : (own last : ℕ) (cs : List SlaveLines) → SlavesKeep own last cs → Every (Known cs) cs
+pub known : (own last : ℕ) (cs : List SlaveLines) → SlavesKeep own last cs → Every (Known cs) cs
 known own last cs k = go cs (λ n. found n own last cs k)
   where
     go : (xs : List SlaveLines) → ((n : ℕ) → Every (λ d. d .node ≡ n → slaveBy n cs ≡ Some d) xs) → Every (Known cs) xs
