@@ -45,7 +45,8 @@ use Rattle.master.specs.declared.types.Verdict.the-variants.{Met, Missed}
 use Rattle.master.specs.declared.types.Word.{Word}
 use Rattle.master.proofs.Hearing.{inputted, hearing, hearing-seen, far-seen}
 use Rattle.master.proofs.Seeing.{seen, tryOf}
-use Rattle.master.proofs.Spread.{Every, every-map, every-zip, Ranged, ranged, found, has, entry-same, entry-other, changed-long, changedBy, changedBy-long, spread}
+use Rattle.master.specs.Record.{Every}
+use Rattle.master.proofs.Spread.{every-map, every-zip, Ranged, ranged, found, has, entry-same, entry-other, changed-long, changedBy, changedBy-long, spread}
 
 -- a listed slave of which something holds
 abbrev pub Some-one : (SlaveLines → Type 0) → List SlaveLines → Type 0

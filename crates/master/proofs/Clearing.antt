@@ -22,7 +22,8 @@ use Rattle.master.specs.declared.types.Quality.the-variants as quality
 use Rattle.master.proofs.Agreement.{Some-one, Same, Idle, Agrees, live, stopping, halted, state}
 use Rattle.master.proofs.Leading.{agrees}
 use Rattle.master.proofs.Seeing.{seen, tryOf, seen-cleared, seen-passed}
-use Rattle.master.proofs.Spread.{Every, every-map}
+use Rattle.master.specs.Record.{Every}
+use Rattle.master.proofs.Spread.{every-map}
 
 count-cons : (p : SlaveLines → Bool) (c : SlaveLines) (cs : List SlaveLines) → countBy p (c ∷ cs) ≡ cond (p c) 1 0 + countBy p cs
 count-cons p c cs = sumBy-cons (λ x. cond (p x) 1 0) c cs

@@ -20,7 +20,8 @@ use Rattle.master.specs.declared.types.Phase.the-variants.{Running, StopDue, H
 use Rattle.master.specs.declared.types.Sweep.{Sweep}
 use Rattle.master.proofs.Agreement.{Some-one, Same, Idle, Agrees, state, is-live, is-dead, Bad, left, ends, pushed}
 use Rattle.master.proofs.Seeing.{seen, tryOf, seen-tick}
-use Rattle.master.proofs.Spread.{Every, every-map, every-zip, Ranged, ranged, entry-same, entry-other, changed-long}
+use Rattle.master.specs.Record.{Every}
+use Rattle.master.proofs.Spread.{every-map, every-zip, Ranged, ranged, entry-same, entry-other, changed-long}
 
 -- the entry of a slave after its tick
 abbrev Ticked : List Entry → List Entry → SlaveLines → Type 0

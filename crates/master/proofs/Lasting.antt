@@ -34,7 +34,8 @@ use Rattle.master.specs.declared.types.ResetKind.the-variants as reset
 use Rattle.master.specs.declared.types.Sweep.the-variants.{Begun}
 use Rattle.master.proofs.Leading.{getD-fresh}
 use Rattle.master.proofs.Origins.{Known, known}
-use Rattle.master.proofs.Spread.{Every, every-map, every-zip, changed-long, changedBy, changedBy-long, spread, spread-all, applied-long}
+use Rattle.master.specs.Record.{Every}
+use Rattle.master.proofs.Spread.{every-map, every-zip, changed-long, changedBy, changedBy-long, spread, spread-all, applied-long}
 
 choose : {X : Type 0} (P : X → Type 0) (b : Bool) (x y : X) → P x → P y → P (cond b x y)
 choose P true x y p q = p

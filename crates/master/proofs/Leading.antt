@@ -39,7 +39,8 @@ use Rattle.master.proofs.Agreement.{Some-one, Same, Idle, Agrees, live, stoppi
 use Rattle.master.proofs.Clocking.{live-ticked}
 use Rattle.master.proofs.Origins.{origin}
 use Rattle.master.proofs.Seeing.{seen, tryOf, seen-cleared, seen-passed}
-use Rattle.master.proofs.Spread.{Every, every-map, every-zip, Ranged, ranged, applied-long, spread-all}
+use Rattle.master.specs.Record.{Every}
+use Rattle.master.proofs.Spread.{every-map, every-zip, Ranged, ranged, applied-long, spread-all}
 use Rattle.master.proofs.Working.{live-put}
 
 -- one step more in the record

@@ -26,7 +26,8 @@ use Rattle.master.specs.declared.types.Quality.the-variants as quality
 use Rattle.master.specs.declared.types.ResetKind.{ResetKind}
 use Rattle.master.specs.declared.types.Sweep.{Sweep}
 use Rattle.master.specs.declared.types.Sweep.the-variants.{Over, Begun, Singles}
-use Rattle.master.proofs.Spread.{Every, found}
+use Rattle.master.specs.Record.{Every}
+use Rattle.master.proofs.Spread.{found}
 
 -- a listed slave of node n that is owed d
 pub record Owed (s : State) (n : ℕ) (d : Duty) : Type 0 where

@@ -43,10 +43,11 @@ use Rattle.master.specs.declared.types.Stage.the-variants.{AwaitBoot, Ask, Ask
 use Rattle.master.specs.declared.types.Word.{Word}
 use Rattle.master.proofs.Agreement.{Same, pushed}
 use Rattle.master.proofs.Seeing.{seen, made, tryOf, toAskOf}
-use Rattle.master.proofs.Spread.{Every, every-map, every-zip, Ranged, ranged, found, changedBy, spread, spread-all}
+use Rattle.master.specs.Record.{Every}
+use Rattle.master.proofs.Spread.{every-map, every-zip, Ranged, ranged, found, changedBy, spread, spread-all}
 
 -- an NMT command is read back as what it is
-nmt-back : (c : Command) (n : ℕ) → nmtIn (nmtTo c n) ≡ Some (record { command = c; node = n })
+pub nmt-back : (c : Command) (n : ℕ) → nmtIn (nmtTo c n) ≡ Some (record { command = c; node = n })
 nmt-back command.Start n = refl
 nmt-back command.Stop n = refl
 nmt-back command.ResetNode n = refl
@@ -110,7 +111,7 @@ not-first c Revision e = and-right (eqb (0x600 + c .node) (0x600 + c .node)) _ r
 not-first c Serial e = and-right (eqb (0x600 + c .node) (0x600 + c .node)) _ refl
 not-first c (Set i) e = and-right (eqb (0x600 + c .node) (0x600 + c .node)) _ (write-other (sizeBy (getD (c .sets) i noSet .size)) (rest (requestOf c (Set i))) (rest (requestOf c Kind)))
 
-no-command : (q : Request) → nmtIn (requestContent q) ≡ None
+pub no-command : (q : Request) → nmtIn (requestContent q) ≡ None
 no-command q = cond-false _ _ _ (ne-eqb (0x600 + q .node) 0 (λ e. omega arith))
 
 -- the request of the check that the slave is at

@@ -16,12 +16,8 @@ use Rattle.sheet.specs.Rules.{SlaveKeeps, SlavesKeep}
 use Rattle.master.specs.declared.types.Change.{Change}
 use Rattle.master.specs.declared.types.Entry.{Entry}
 use Rattle.master.specs.Network.{slaveBy, appliedTo}
+use Rattle.master.specs.Record.{Every}
 use Rattle.master.specs.Table.{fresh, entryOf, changed, changeBy, applied, appliedAll}
-
--- a fact of each listed slave
-abbrev pub Every : (SlaveLines → Type 0) → List SlaveLines → Type 0
-Every P [] = Unit {0}
-Every P (c ∷ cs) = P c × Every P cs
 
 pub every-map : (P Q : SlaveLines → Type 0) (cs : List SlaveLines) → ((c : SlaveLines) → P c → Q c) → Every P cs → Every Q cs
 every-map P Q [] f h = tt

@@ -41,7 +41,8 @@ use Rattle.master.proofs.Agreement.{Same, Agrees, live, state}
 use Rattle.master.proofs.Origins.{Owed, Origin}
 use Rattle.master.proofs.Putting.{read-nmt, reach-all, reach-one, seen-reset, seen-start, read-own, read-other, put-one, put-all}
 use Rattle.master.proofs.Seeing.{seen, made}
-use Rattle.master.proofs.Spread.{Every, Ranged, has, changed-long, applied-long}
+use Rattle.master.specs.Record.{Every}
+use Rattle.master.proofs.Spread.{Ranged, has, changed-long, applied-long}
 
 -- a start is due to a passed slave alone, and a request where it is to be asked
 none-some : (b : Bool) (d : Duty) → cond b (Some duty.Start) None ≡ Some d → d ≡ duty.Start

@@ -1,6 +1,7 @@
 -- The bus record, and how it is read. The reading uses nothing of the master's entries; both sides share the check rules.
 use mathlib.Core.Bool.{Bool, true, false, cond, not, _&&_}
 use mathlib.Core.List.{List, [], _∷_}
+use mathlib.Core.Path.{_≡_}
 use Prim.Native.Nat.{ℕ, _-_}
 use lib.Dec.{eqb, ltb}
 use lib.ListN.{length}
@@ -214,3 +215,28 @@ silentOrRunning word.Operational = true
 silentOrRunning word.PreOperational = false
 silentOrRunning word.Reset = false
 silentOrRunning word.Loss = false
+
+-- a fact of each of these slaves
+abbrev pub Every : (SlaveLines → Type 0) → List SlaveLines → Type 0
+Every P [] = Unit {0}
+Every P (c ∷ cs) = P c × Every P cs
+
+abbrev pub isReset : Command → Bool
+isReset command.Start = false
+isReset command.Stop = false
+isReset command.ResetNode = true
+isReset command.ResetCommunication = true
+
+-- A start may follow a record in which all are cleared and every slave that it reaches has passed.
+pub record MayStart (ls : SheetLines) (before : List Event) (m : NmtMessage) : Type 0 where
+  pub cleared : allCleared ls before ≡ true
+  pub passed : Every (λ c. reaches m (c .node) (ls .own) ≡ true → hasPassed (reading ls c before .at) ≡ true) (ls .slaves)
+
+-- A reset may follow a record in which no keep-alive slave that it reaches has silence or Operational as its last word.
+abbrev pub MayReset : SheetLines → List Event → NmtMessage → Type 0
+MayReset ls before m = Every (λ c. reaches m (c .node) (ls .own) ≡ true → c .keep ≡ true → silentOrRunning (reading ls c before .word) ≡ false) (ls .slaves)
+
+-- what a put frame asks of the record before it
+pub record MayPut (ls : SheetLines) (before : List Event) (f : Content) : Type 0 where
+  pub start : (m : NmtMessage) → nmtIn f ≡ Some m → m .command ≡ command.Start → MayStart ls before m
+  pub reset : (m : NmtMessage) → nmtIn f ≡ Some m → isReset (m .command) ≡ true → MayReset ls before m
