@@ -87,3 +87,104 @@ reset-due go (ListenControl n r) k e = let z : _≡_ {A = ℕ} 0 1 = cc in absur
 reset-due go (Passed r s n) k e = absurd (start-none _ k e)
 reset-due go (Retry n) k e = let z : _≡_ {A = ℕ} 0 1 = cc in absurd (omega arith)
 reset-due go (ResetDue q) k e = refl
+
+-- a message that is no start, or no reset
+reset-no-start : {X : Type 0} (r : ResetKind) (n : ℕ) (m : NmtMessage) → m ≡ record { command = commandOf r; node = n } → m .command ≡ command.Start → X
+reset-no-start reset.Node n m a b = let y = sym (ap (λ (z : NmtMessage). z .command) a) ∙ b in let z : _≡_ {A = ℕ} 0 1 = cc in absurd (omega arith)
+reset-no-start reset.Communication n m a b = let y = sym (ap (λ (z : NmtMessage). z .command) a) ∙ b in let z : _≡_ {A = ℕ} 0 1 = cc in absurd (omega arith)
+
+other-no-reset : {X : Type 0} (c : Command) (n : ℕ) (m : NmtMessage) → isReset c ≡ false → m ≡ record { command = c; node = n } → isReset (m .command) ≡ true → X
+other-no-reset c n m f a b = let y = sym (ap (λ (z : NmtMessage). isReset (z .command)) a) ∙ b in let w = sym f ∙ y in let z : _≡_ {A = ℕ} 0 1 = cc in absurd (omega arith)
+
+module _ (ls : SheetLines) (k : SlavesKeep (ls .own) 0 (ls .slaves)) (h : List Event) (t : List Entry) (w : Sweep) (l : ℕ) (b : Bool) (n : ℕ) (same : Every (Same ls h t) (ls .slaves)) (fair : Every (λ c. Fair c (entryOf t c)) (ls .slaves)) where
+  abbrev now : State
+  now = state ls t w l b n Running
+
+  -- what is known of each listed slave
+  abbrev About : ℕ → SlaveLines → Type 0
+  About m d = Ranged (ls .own) 0 d × (d .node ≡ m → slaveBy m (ls .slaves) ≡ Some d) × Same ls h t d
+
+  about : (m : ℕ) → Every (About m) (ls .slaves)
+  about m =
+      every-zip (λ d. Ranged (ls .own) 0 d × (d .node ≡ m → slaveBy m (ls .slaves) ≡ Some d)) (Same ls h t) (About m) (ls .slaves) (λ d x y. (x .0, x .1, y))
+      (every-zip (Ranged (ls .own) 0) (λ d. d .node ≡ m → slaveBy m (ls .slaves) ≡ Some d) (λ d. Ranged (ls .own) 0 d × (d .node ≡ m → slaveBy m (ls .slaves) ≡ Some d)) (ls .slaves) (λ d x y. (x, y)) (ranged (ls .own) 0 (ls .slaves) k) (found m (ls .own) 0 (ls .slaves) k)) same
+
+  pass-read : (d : SlaveLines) → Same ls h t d → isPassed (entryOf t d .stage) ≡ true → hasPassed (reading ls d h .at) ≡ true
+  pass-read d s p = ap (λ (r : Reading). hasPassed (r .at)) (sym s) ∙ sym (seen-passed (entryOf t d .stage)) ∙ p
+
+  -- the slave that a single command reaches
+  reached : (c : Command) (m : ℕ) → 1 ≤ m → (d : SlaveLines) → About m d → reaches (record { command = c; node = m }) (d .node) (ls .own) ≡ true → slaveBy m (ls .slaves) ≡ Some d
+  reached c m pos d a e = let low = a .0 .above in a .1 (eqb-true (d .node) m (sym (reach-one c m (d .node) (ls .own) pos (omega arith)) ∙ e))
+
+  may-start : (m : ℕ) → Owed now m duty.Start → MayPut ls h (nmtTo command.Start m)
+  may-start m o =
+      let g = has m (ls .own) 0 (ls .slaves) (o .slave) k (o .listed) in
+      let low = g .low in let node = g .node in
+      let d = start-due (going now) (entryOf t (o .slave) .stage) (o .due) in
+      record {
+        start = λ x e c.
+            subst (MayStart ls h) (sym (is-message command.Start m x e))
+            (record {
+              cleared = sym (live-go ls h t l same) ∙ d .0;
+              passed = every-map (About m) (λ y. reaches (record { command = command.Start; node = m }) (y .node) (ls .own) ≡ true → hasPassed (reading ls y h .at) ≡ true) (ls .slaves)
+                  (λ y a r. let it : o .slave ≡ y = let z = sym (o .listed) ∙ reached command.Start m (omega arith) y a r in cc in pass-read y (a .2) (ap (λ z. isPassed (entryOf t z .stage)) (sym it) ∙ d .1)) (about m);
+            });
+        reset = λ x e c. other-no-reset command.Start m x refl (is-message command.Start m x e) c;
+      }
+
+  may-start-all : (m : ℕ) → Owed now m duty.Start → startsAll now ≡ true → MayPut ls h (nmtTo command.Start 0)
+  may-start-all m o s =
+      let d = start-due (going now) (entryOf t (o .slave) .stage) (o .due) in
+      let full = eqb-true (counted quality.Passed now) (length (ls .slaves)) (and-parts (not b) _ (and-parts (ls .startall) _ s .1) .1) in
+      record {
+        start = λ x e c.
+            subst (MayStart ls h) (sym (is-message command.Start 0 x e))
+            (record {
+              cleared = sym (live-go ls h t l same) ∙ d .0;
+              passed = every-zip (λ y. isPassed (entryOf t y .stage) ≡ true) (Same ls h t) (λ y. reaches (record { command = command.Start; node = 0 }) (y .node) (ls .own) ≡ true → hasPassed (reading ls y h .at) ≡ true) (ls .slaves) (λ y p a r. pass-read y a p) (count-all (holds quality.Passed t l) (ls .slaves) full) same;
+            });
+        reset = λ x e c. other-no-reset command.Start 0 x refl (is-message command.Start 0 x e) c;
+      }
+
+  spared-read : (d : SlaveLines) → Same ls h t d → isSpared d (entryOf t d) ≡ false → d .keep ≡ true → silentOrRunning (reading ls d h .word) ≡ false
+  spared-read d s p q = ap (λ (r : Reading). silentOrRunning (r .word)) (sym s) ∙ same-word (entryOf t d .word) ∙ ap (λ x. x && mayRun (entryOf t d .word)) (sym q) ∙ p
+
+  may-reset : (r : ResetKind) (m : ℕ) → Every (λ d. reaches (record { command = commandOf r; node = m }) (d .node) (ls .own) ≡ true → isSpared d (entryOf t d) ≡ false) (ls .slaves) → MayPut ls h (nmtTo (commandOf r) m)
+  may-reset r m f = record {
+    start = λ x e c. reset-no-start r m x (is-message (commandOf r) m x e) c;
+    reset = λ x e c.
+        subst (MayReset ls h) (sym (is-message (commandOf r) m x e))
+        (every-zip (λ d. reaches (record { command = commandOf r; node = m }) (d .node) (ls .own) ≡ true → isSpared d (entryOf t d) ≡ false) (Same ls h t) (λ d. reaches (record { command = commandOf r; node = m }) (d .node) (ls .own) ≡ true → d .keep ≡ true → silentOrRunning (reading ls d h .word) ≡ false) (ls .slaves) (λ d p a y q. spared-read d a (p y) q) f same);
+  }
+
+  may-reset-own : (r : ResetKind) (m : ℕ) → Owed now m (duty.Reset r) → MayPut ls h (nmtTo (commandOf r) m)
+  may-reset-own r m o =
+      let g = has m (ls .own) 0 (ls .slaves) (o .slave) k (o .listed) in
+      let low = g .low in let node = g .node in
+      may-reset r m
+      (every-zip (About m) (λ c. Fair c (entryOf t c)) (λ d. reaches (record { command = commandOf r; node = m }) (d .node) (ls .own) ≡ true → isSpared d (entryOf t d) ≡ false) (ls .slaves)
+      (λ d a f y.
+      let it : o .slave ≡ d = let z = sym (o .listed) ∙ reached (commandOf r) m (omega arith) d a y in cc in
+      f (ap (λ z. dueReset (entryOf t z .stage)) (sym it) ∙ reset-due (going now) (entryOf t (o .slave) .stage) r (o .due))) (about m) fair)
+
+  may-serve : (m : ℕ) (d : Duty) (f : Content) → Owed now m d → dutyContent (ls .slaves) m d ≡ Some f → MayPut ls h f
+  may-serve m (duty.Reset r) f o e = let is : nmtTo (commandOf r) m ≡ f = cc in subst (MayPut ls h) is (may-reset-own r m o)
+  may-serve m (duty.Request q) f o e =
+      let is : requestContent (requestOf (o .slave) q) ≡ f = let y = ap (mapped (λ c. requestContent (requestOf c q))) (sym (o .listed)) ∙ e in cc in
+      let quiet : nmtIn f ≡ None = ap nmtIn (sym is) ∙ no-command (requestOf (o .slave) q) in
+      record { start = λ x y z. not-command (o .slave) f x quiet y; reset = λ x y z. not-command (o .slave) f x quiet y }
+  may-serve m duty.Start f o e = let is : nmtTo command.Start m ≡ f = cc in subst (MayPut ls h) is (may-start m o)
+
+  pub may-put : (p : Plan) (f : Content) → Origin now p → planContent (ls .slaves) p ≡ Some f → MayPut ls h f
+  may-put plan.Nothing f o e = let z : _≡_ {A = ℕ} 0 1 = cc in absurd (omega arith)
+  may-put plan.Stop f o e = let z : _≡_ {A = ℕ} 0 1 = cc in absurd (omega arith)
+  may-put (plan.ResetAll r) f o e =
+      let is : nmtTo (commandOf r) 0 ≡ f = cc in
+      subst (MayPut ls h) is (may-reset r 0 (every-map (λ d. isSpared d (entryOf t d) ≡ false) (λ d. reaches (record { command = commandOf r; node = 0 }) (d .node) (ls .own) ≡ true → isSpared d (entryOf t d) ≡ false) (ls .slaves) (λ d x _. x) (count-none (holds quality.Spared t l) (ls .slaves) o)))
+  may-put (plan.ResetOne r m) f o e =
+      let is : nmtTo (commandOf r) m ≡ f = cc in
+      let free : sparedAt t (slaveBy m (ls .slaves)) ≡ false = not-true _ (and-parts (not (eqb m (ls .own))) _ (o .1) .1) in
+      subst (MayPut ls h) is
+      (may-reset r m (every-map (About m) (λ d. reaches (record { command = commandOf r; node = m }) (d .node) (ls .own) ≡ true → isSpared d (entryOf t d) ≡ false) (ls .slaves) (λ d a y. ap (sparedAt t) (sym (reached (commandOf r) m (o .0) d a y)) ∙ free) (about m)))
+  may-put (plan.Serve m d) f o e = may-serve m d f o e
+  may-put (plan.StartAll m) f o e = let is : nmtTo command.Start 0 ≡ f = cc in subst (MayPut ls h) is (may-start-all m (o .0) (o .1))
