@@ -6,6 +6,7 @@ pub mod Hearing
 pub mod Lasting
 pub mod Leading
 pub mod Origins
+pub mod Permitted
 pub mod Permitting
 pub mod Planning
 pub mod Putting

@@ -56,7 +56,7 @@ same-word word.Reset = refl
 same-word word.Loss = refl
 
 -- a message is read from a command's frame as it is
-is-message : (c : Command) (n : ℕ) (m : NmtMessage) → nmtIn (nmtTo c n) ≡ Some m → m ≡ record { command = c; node = n }
+pub is-message : (c : Command) (n : ℕ) (m : NmtMessage) → nmtIn (nmtTo c n) ≡ Some m → m ≡ record { command = c; node = n }
 is-message c n m e = let y = sym (nmt-back c n) ∙ e in cc
 
 not-command : {X : Type 0} (q : SlaveLines) (f : Content) (m : NmtMessage) → nmtIn f ≡ None → nmtIn f ≡ Some m → X
@@ -93,7 +93,7 @@ reset-no-start : {X : Type 0} (r : ResetKind) (n : ℕ) (m : NmtMessage) → m �
 reset-no-start reset.Node n m a b = let y = sym (ap (λ (z : NmtMessage). z .command) a) ∙ b in let z : _≡_ {A = ℕ} 0 1 = cc in absurd (omega arith)
 reset-no-start reset.Communication n m a b = let y = sym (ap (λ (z : NmtMessage). z .command) a) ∙ b in let z : _≡_ {A = ℕ} 0 1 = cc in absurd (omega arith)
 
-other-no-reset : {X : Type 0} (c : Command) (n : ℕ) (m : NmtMessage) → isReset c ≡ false → m ≡ record { command = c; node = n } → isReset (m .command) ≡ true → X
+pub other-no-reset : {X : Type 0} (c : Command) (n : ℕ) (m : NmtMessage) → isReset c ≡ false → m ≡ record { command = c; node = n } → isReset (m .command) ≡ true → X
 other-no-reset c n m f a b = let y = sym (ap (λ (z : NmtMessage). isReset (z .command)) a) ∙ b in let w = sym f ∙ y in let z : _≡_ {A = ℕ} 0 1 = cc in absurd (omega arith)
 
 module _ (ls : SheetLines) (k : SlavesKeep (ls .own) 0 (ls .slaves)) (h : List Event) (t : List Entry) (w : Sweep) (l : ℕ) (b : Bool) (n : ℕ) (same : Every (Same ls h t) (ls .slaves)) (fair : Every (λ c. Fair c (entryOf t c)) (ls .slaves)) where
@@ -188,3 +188,6 @@ module _ (ls : SheetLines) (k : SlavesKeep (ls .own) 0 (ls .slaves)) (h : List E
       (may-reset r m (every-map (About m) (λ d. reaches (record { command = commandOf r; node = m }) (d .node) (ls .own) ≡ true → isSpared d (entryOf t d) ≡ false) (ls .slaves) (λ d a y. ap (sparedAt t) (sym (reached (commandOf r) m (o .0) d a y)) ∙ free) (about m)))
   may-put (plan.Serve m d) f o e = may-serve m d f o e
   may-put (plan.StartAll m) f o e = let is : nmtTo command.Start 0 ≡ f = cc in subst (MayPut ls h) is (may-start-all m (o .0) (o .1))
+
+pub stop-no-start : {X : Type 0} (n : ℕ) (m : NmtMessage) → m ≡ record { command = command.Stop; node = n } → m .command ≡ command.Start → X
+stop-no-start n m a b = let y = sym (ap (λ (z : NmtMessage). z .command) a) ∙ b in let z : _≡_ {A = ℕ} 0 1 = cc in absurd (omega arith)
