@@ -5,6 +5,7 @@ pub mod Fairness
 pub mod Hearing
 pub mod Lasting
 pub mod Leading
+pub mod Ordering
 pub mod Origins
 pub mod Permitted
 pub mod Permitting

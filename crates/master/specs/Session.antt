@@ -114,3 +114,25 @@ recordOf (x ∷ xs) = noted x ++ recordOf xs
 pub data Leads (ls : SheetLines) : List Step → Machine → Type 0 where
   fresh : (p : PortState) → p .waiting ≡ [] → Leads ls [] (record { net = freshState ls; port = p })
   then : (tr : List Step) (m : Machine) → Leads ls tr m → (c : Call) → Leads ls (tr ++ stepOf c m ∷ []) (after c m)
+
+abbrev pub takenOf : Step → List Content
+takenOf (hears f) = []
+takenOf passes = []
+takenOf (works room w) = []
+takenOf (takes None) = []
+takenOf (takes (Some f)) = f ∷ []
+
+abbrev pub enteredOf : Step → List Content
+enteredOf (hears f) = []
+enteredOf passes = []
+enteredOf (works room w) = putBy w
+enteredOf (takes o) = []
+
+-- the frames that left, and those that entered, in their order
+abbrev pub left : List Step → List Content
+left [] = []
+left (x ∷ xs) = takenOf x ++ left xs
+
+abbrev pub entered : List Step → List Content
+entered [] = []
+entered (x ∷ xs) = enteredOf x ++ entered xs
