@@ -165,7 +165,7 @@ module _ (c : SlaveLines) where
   ends e (input.Replied r) b = ends-reply r (e .stage) e b
   ends e input.Tick b = ends-tick (e .stage) e b
 
-some-found : (P : SlaveLines → Type 0) (n : ℕ) (cs : List SlaveLines) (c : SlaveLines) → slaveBy n cs ≡ Some c → P c → Some-one P cs
+pub some-found : (P : SlaveLines → Type 0) (n : ℕ) (cs : List SlaveLines) (c : SlaveLines) → slaveBy n cs ≡ Some c → P c → Some-one P cs
 some-found P n [] c e p = let z : _≡_ {A = ℕ} 0 1 = cc in absurd (omega arith)
 some-found P n (d ∷ ds) c e p =
     ⊎-elim (λ t. let same : c ≡ d = let y = sym (cond-true _ (Some d) (slaveBy n ds) t) ∙ e in cc in inl (subst P same p)) (λ f. inr (some-found P n ds c (sym (cond-false _ (Some d) (slaveBy n ds) f) ∙ e) p)) (cases-bool (eqb (d .node) n))

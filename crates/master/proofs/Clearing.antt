@@ -58,7 +58,7 @@ pub count-none : (p : SlaveLines → Bool) (cs : List SlaveLines) → countBy p 
 count-none p [] l = tt
 count-none p (c ∷ cs) l = let k = one-none (p c) (countBy p cs) (omega (arith, l, count-cons p c cs)) in (k .0, count-none p cs (k .1))
 
-not-full : (p : SlaveLines → Bool) (cs : List SlaveLines) → Some-one (λ c. p c ≡ false) cs → eqb (countBy p cs) (length cs) ≡ false
+pub not-full : (p : SlaveLines → Bool) (cs : List SlaveLines) → Some-one (λ c. p c ≡ false) cs → eqb (countBy p cs) (length cs) ≡ false
 not-full p cs h = let k = count-less p cs h in ne-eqb (countBy p cs) (length cs) (λ e. omega arith)
 
 some-map : (P Q : SlaveLines → Type 0) (cs : List SlaveLines) → ((c : SlaveLines) → P c → Q c) → Some-one P cs → Some-one Q cs
