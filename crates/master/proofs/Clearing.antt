@@ -25,7 +25,7 @@ use Rattle.master.proofs.Seeing.{seen, tryOf, seen-cleared, seen-passed}
 use Rattle.master.specs.Record.{Every}
 use Rattle.master.proofs.Spread.{every-map}
 
-count-cons : (p : SlaveLines → Bool) (c : SlaveLines) (cs : List SlaveLines) → countBy p (c ∷ cs) ≡ cond (p c) 1 0 + countBy p cs
+pub count-cons : (p : SlaveLines → Bool) (c : SlaveLines) (cs : List SlaveLines) → countBy p (c ∷ cs) ≡ cond (p c) 1 0 + countBy p cs
 count-cons p c cs = sumBy-cons (λ x. cond (p x) 1 0) c cs
 
 pub count-same : (p q : SlaveLines → Bool) (cs : List SlaveLines) → Every (λ c. p c ≡ q c) cs → countBy p cs ≡ countBy q cs

@@ -18,3 +18,4 @@ pub mod Spread
 pub mod Ticking
 pub mod Walking
 pub mod Working
+pub mod Turning

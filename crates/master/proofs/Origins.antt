@@ -53,13 +53,13 @@ known own last cs k = go cs (λ n. found n own last cs k)
     go [] f = tt
     go (x ∷ xs) f = (f (x .node) .0 refl, go xs (λ n. f n .1))
 
-every-take : (P : SlaveLines → Type 0) (n : ℕ) (cs : List SlaveLines) → Every P cs → Every P (take n cs)
+pub every-take : (P : SlaveLines → Type 0) (n : ℕ) (cs : List SlaveLines) → Every P cs → Every P (take n cs)
 every-take P zero [] h = tt
 every-take P zero (c ∷ cs) h = tt
 every-take P (suc n) [] h = tt
 every-take P (suc n) (c ∷ cs) h = (h .0, every-take P n cs (h .1))
 
-every-drop : (P : SlaveLines → Type 0) (n : ℕ) (cs : List SlaveLines) → Every P cs → Every P (drop n cs)
+pub every-drop : (P : SlaveLines → Type 0) (n : ℕ) (cs : List SlaveLines) → Every P cs → Every P (drop n cs)
 every-drop P zero [] h = tt
 every-drop P zero (c ∷ cs) h = h
 every-drop P (suc n) [] h = tt
