@@ -140,3 +140,117 @@ every-in : (P : SlaveLines → Type 0) (c : SlaveLines) (cs : List SlaveLines) �
 every-in P c [] h k = absurd k
 every-in P c (d ∷ ds) h (inl e) = subst P e (h .0)
 every-in P c (d ∷ ds) h (inr k) = every-in P c ds (h .1) k
+
+-- those served so far come first
+module _ (last : ℕ) where
+  abbrev up-to : SlaveLines → Bool
+  up-to c = leb (c .node) last
+
+  none-up : (cs : List SlaveLines) → Every (λ d. last < d .node) cs → countBy up-to cs ≡ 0
+  none-up [] h = refl
+  none-up (c ∷ cs) h =
+      let x : _≡_ {A = ℕ} (cond (up-to c) 1 0) 0 = ap (λ b. cond b 1 0) (lt-leb (c .node) last (h .0)) in
+      let y = none-up cs (h .1) in
+      omega (arith, x, y, count-cons up-to c cs)
+
+  -- the front is served, and the rest comes after
+  pub cut : (cs : List SlaveLines) → Asc cs → (k : ℕ) → k ≡ countBy up-to cs → Every (λ d. d .node ≤ last) (take k cs) × Every (λ d. last < d .node) (drop k cs)
+  cut [] a zero e = (tt, tt)
+  cut [] a (suc k) e = absurd (let z : suc k ≡ 0 = e in omega arith)
+  cut (c ∷ cs) a zero e =
+      ⊎-elim
+      (λ h. let x : _≡_ {A = ℕ} (cond (up-to c) 1 0) 1 = ap (λ b. cond b 1 0) (le-leb (c .node) last h) in absurd (omega (arith, x, e, count-cons up-to c cs)))
+      (λ h. (tt, (h, every-map (λ d. c .node < d .node) (λ d. last < d .node) cs (λ d y. omega arith) (a .0))))
+      (up-or (c .node))
+    where
+      up-or : (n : ℕ) → (n ≤ last) ⊎ (last < n)
+      up-or n = ⊎-elim (λ x. inr x) (λ x. inl x) (cases-lt last n)
+  cut (c ∷ cs) a (suc k) e =
+      ⊎-elim
+      (λ h.
+      let x : _≡_ {A = ℕ} (cond (up-to c) 1 0) 1 = ap (λ b. cond b 1 0) (le-leb (c .node) last h) in
+      let r = cut cs (a .1) k (omega (arith, x, e, count-cons up-to c cs)) in
+      ((h, r .0), r .1))
+      (λ h.
+      let x = none-up (c ∷ cs) (h, every-map (λ d. c .node < d .node) (λ d. last < d .node) cs (λ d y. omega arith) (a .0)) in
+      absurd (omega (arith, x, e)))
+      (up-or (c .node))
+    where
+      up-or : (n : ℕ) → (n ≤ last) ⊎ (last < n)
+      up-or n = ⊎-elim (λ x. inr x) (λ x. inl x) (cases-lt last n)
+
+-- the first that is owed something
+module _ (go : Bool) (t : List Entry) where
+  first-at : (y : SlaveLines) (o : Option Duty) (r : Option (ℕ × Duty)) (q : ℕ × Duty) → dueOr y o r ≡ Some q → (y .node ≡ q .0) ⊎ (r ≡ Some q)
+  first-at y None r q e = inr e
+  first-at y (Some d) r q e = let x : _≡_ {A = ℕ × Duty} (y .node, d) q = cc in inl (ap (λ (z : ℕ × Duty). z .0) x)
+
+  pub first-in : (xs : List SlaveLines) (q : ℕ × Duty) → firstDue go t xs ≡ Some q → Some-one (λ x. x .node ≡ q .0) xs
+  first-in [] q e = absurd (let z : _≡_ {A = ℕ} 0 1 = cc in omega arith)
+  first-in (y ∷ ys) q e = ⊎-elim (λ x. inl x) (λ x. inr (first-in ys q x)) (first-at y (dutyOf go (entryOf t y .stage)) (firstDue go t ys) q e)
+
+  pub record First (e : ℕ) (xs : List SlaveLines) : Type 0 where
+    pub due : ℕ × Duty
+    pub found : firstDue go t xs ≡ Some due
+    pub before : due .0 ≤ e
+
+  first-by : (y : SlaveLines) (ys : List SlaveLines) (e : ℕ) (o : Option Duty) → dutyOf go (entryOf t y .stage) ≡ o → y .node ≤ e → (dutyOf go (entryOf t y .stage) ≡ None → First e ys) → First e (y ∷ ys)
+  first-by y ys e (Some d) x l f = record { due = (y .node, d); found = ap (λ z. dueOr y z (firstDue go t ys)) x; before = l }
+  first-by y ys e None x l f = let r = f x in record { due = r .due; found = ap (λ z. dueOr y z (firstDue go t ys)) x ∙ r .found; before = r .before }
+
+  pub first-before : (c : SlaveLines) (d : Duty) → dutyOf go (entryOf t c .stage) ≡ Some d → (xs : List SlaveLines) → Asc xs → In c xs → First (c .node) xs
+  first-before c d h [] a k = absurd k
+  first-before c d h (y ∷ ys) a (inl e) =
+      first-by y ys (c .node) (dutyOf go (entryOf t y .stage)) refl (let n = ap (λ (z : SlaveLines). z .node) e in omega arith)
+      (λ x. absurd (let w = sym (ap (λ z. dutyOf go (entryOf t z .stage)) e) ∙ x in let v = sym h ∙ w in let z : _≡_ {A = ℕ} 0 1 = cc in omega arith))
+  first-before c d h (y ∷ ys) a (inr k) =
+      first-by y ys (c .node) (dutyOf go (entryOf t y .stage)) refl (let n = every-in (λ z. y .node < z .node) c ys (a .0) k in omega arith) (λ _. first-before c d h ys (a .1) k)
+
+some-every : (P Q : SlaveLines → Type 0) (R : Type 0) (cs : List SlaveLines) → ((c : SlaveLines) → P c → Q c → R) → Every P cs → Some-one Q cs → R
+some-every P Q R [] f h k = absurd k
+some-every P Q R (c ∷ cs) f h (inl p) = f c (h .0) p
+some-every P Q R (c ∷ cs) f h (inr p) = some-every P Q R cs f (h .1) p
+
+-- While a slave is owed something, the next that is served stands on the way to it.
+module _ (s : State) (k : SlavesKeep (s .lines .own) 0 (s .lines .slaves)) (c : SlaveLines) (e : ℕ) (is : slaveBy e (s .lines .slaves) ≡ Some c) (node : c .node ≡ e) (d : Duty) (due : dutyOf (going s) (entryOf (s .entries) c .stage) ≡ Some d) where
+  pub record Chosen : Type 0 where
+    pub next : ℕ × Duty
+    pub found : nextDue s ≡ Some next
+    pub way : inArc (s .last) e (next .0) ≡ true
+
+  abbrev cs : List SlaveLines
+  cs = s .lines .slaves
+
+  abbrev n : ℕ
+  n = counted quality.Served s
+
+  chosen-by : (o : Option (ℕ × Duty)) → firstDue (going s) (s .entries) (drop n cs) ≡ o → Every (λ x. x .node ≤ s .last) (take n cs) → Every (λ x. s .last < x .node) (drop n cs) → In c (take n cs) ⊎ In c (drop n cs) → Chosen
+  chosen-by o x low high (inr k2) =
+      let f = first-before (going s) (s .entries) c d due (drop n cs) (asc-drop n cs (asc (s .lines .own) 0 cs k)) k2 in
+      let b = f .before in
+      record {
+        next = f .due;
+        found = ap (λ z. orElse z (firstDue (going s) (s .entries) (take n cs))) (f .found);
+        way = arc-up (s .last) e (f .due .0) (some-every (λ x. s .last < x .node) (λ x. x .node ≡ f .due .0) (s .last < f .due .0) (drop n cs) (λ y p q. omega arith) high (first-in (going s) (s .entries) (drop n cs) (f .due) (f .found))) (omega (arith, b, node));
+      }
+  chosen-by (Some q) x low high (inl k1) =
+      let under : c .node ≤ s .last = every-in (λ x. x .node ≤ s .last) c (take n cs) low k1 in
+      record {
+        next = q;
+        found = ap (λ z. orElse z (firstDue (going s) (s .entries) (take n cs))) x;
+        way = arc-over (s .last) e (q .0) (omega (arith, node)) (inl (some-every (λ x. s .last < x .node) (λ x. x .node ≡ q .0) (s .last < q .0) (drop n cs) (λ y p r. omega arith) high (first-in (going s) (s .entries) (drop n cs) q x)));
+      }
+  chosen-by None x low high (inl k1) =
+      let under : c .node ≤ s .last = every-in (λ x. x .node ≤ s .last) c (take n cs) low k1 in
+      let f = first-before (going s) (s .entries) c d due (take n cs) (asc-take n cs (asc (s .lines .own) 0 cs k)) k1 in
+      let b = f .before in
+      record {
+        next = f .due;
+        found = ap (λ z. orElse z (firstDue (going s) (s .entries) (take n cs))) x ∙ f .found;
+        way = arc-over (s .last) e (f .due .0) (omega (arith, node)) (inr (omega (arith, b, node)));
+      }
+
+  pub chosen : Chosen
+  chosen =
+      let r = cut (s .last) cs (asc (s .lines .own) 0 cs k) n refl in
+      chosen-by (firstDue (going s) (s .entries) (drop n cs)) refl (r .0) (r .1) (in-split c n cs (some-found (λ x. x ≡ c) e cs c is refl))
