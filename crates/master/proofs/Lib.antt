@@ -7,6 +7,7 @@ pub mod Lasting
 pub mod Leading
 pub mod Ordering
 pub mod Origins
+pub mod Owing
 pub mod Pending
 pub mod Permitted
 pub mod Permitting

@@ -2,13 +2,16 @@
 use mathlib.Core.Bool.{Bool, true, false, cond, _&&_}
 use mathlib.Core.List.{List, [], _∷_, _++_}
 use mathlib.Core.Path.{_≡_}
-use Prim.Native.Nat.{ℕ, _-_}
+use Prim.Native.Nat.{ℕ, _+_, _-_}
 use lib.Dec.{eqb, ltb}
 use Rattle.std.specs.declared.option.Option.{Option}
 use Rattle.std.specs.declared.option.Option.the-variants.{Some, None}
 use Rattle.frames.specs.Contents.{Content}
 use Rattle.frames.specs.Lists.{accepts}
-use Rattle.sheet.specs.Format.{SheetLines}
+use Rattle.frames.specs.Nmt.{nmtIn, reaches}
+use Rattle.frames.specs.declared.nmt.Command.the-variants as command
+use Rattle.frames.specs.declared.nmt.NmtMessage.{NmtMessage}
+use Rattle.sheet.specs.Format.{SlaveLines, SheetLines}
 use Rattle.master.specs.Network.{State, freshState, isHalted, heardBy, ticked, planned, planContent, carriedOut}
 use Rattle.master.specs.Record.{Event, heard, tick, put}
 use Rattle.master.specs.declared.types.Plan.the-variants as plan
@@ -136,3 +139,25 @@ left (x ∷ xs) = takenOf x ++ left xs
 abbrev pub entered : List Step → List Content
 entered [] = []
 entered (x ∷ xs) = enteredOf x ++ entered xs
+
+-- a work that found a free place counts one
+abbrev pub freeOf : Step → ℕ
+freeOf (hears f) = 0
+freeOf passes = 0
+freeOf (works room w) = cond room 1 0
+freeOf (takes o) = 0
+
+abbrev pub freeWorks : List Step → ℕ
+freeWorks [] = 0
+freeWorks (x ∷ xs) = freeOf x + freeWorks xs
+
+-- a work among these steps puts a start that names or covers the slave
+pub record StartIn (ls : SheetLines) (c : SlaveLines) (seg : List Step) : Type 0 where
+  pub before : List Step
+  pub behind : List Step
+  pub frame : Content
+  pub message : NmtMessage
+  pub there : seg ≡ before ++ works true (placed frame) ∷ behind
+  pub reads : nmtIn frame ≡ Some message
+  pub start : message .command ≡ command.Start
+  pub reaching : reaches message (c .node) (ls .own) ≡ true
