@@ -2,6 +2,7 @@ pub mod Agreement
 pub mod Clearing
 pub mod Clocking
 pub mod Fairness
+pub mod Freely
 pub mod Hearing
 pub mod Lasting
 pub mod Leading

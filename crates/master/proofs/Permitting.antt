@@ -59,7 +59,7 @@ same-word word.Loss = refl
 pub is-message : (c : Command) (n : ℕ) (m : NmtMessage) → nmtIn (nmtTo c n) ≡ Some m → m ≡ record { command = c; node = n }
 is-message c n m e = let y = sym (nmt-back c n) ∙ e in cc
 
-not-command : {X : Type 0} (q : SlaveLines) (f : Content) (m : NmtMessage) → nmtIn f ≡ None → nmtIn f ≡ Some m → X
+pub not-command : {X : Type 0} (q : SlaveLines) (f : Content) (m : NmtMessage) → nmtIn f ≡ None → nmtIn f ≡ Some m → X
 not-command q f m a b = let z : _≡_ {A = ℕ} 0 1 = cc in absurd (omega arith)
 
 -- a start is due only while Go, to a slave that has passed
@@ -89,7 +89,7 @@ reset-due go (Retry n) k e = let z : _≡_ {A = ℕ} 0 1 = cc in absurd (omega a
 reset-due go (ResetDue q) k e = refl
 
 -- a message that is no start, or no reset
-reset-no-start : {X : Type 0} (r : ResetKind) (n : ℕ) (m : NmtMessage) → m ≡ record { command = commandOf r; node = n } → m .command ≡ command.Start → X
+pub reset-no-start : {X : Type 0} (r : ResetKind) (n : ℕ) (m : NmtMessage) → m ≡ record { command = commandOf r; node = n } → m .command ≡ command.Start → X
 reset-no-start reset.Node n m a b = let y = sym (ap (λ (z : NmtMessage). z .command) a) ∙ b in let z : _≡_ {A = ℕ} 0 1 = cc in absurd (omega arith)
 reset-no-start reset.Communication n m a b = let y = sym (ap (λ (z : NmtMessage). z .command) a) ∙ b in let z : _≡_ {A = ℕ} 0 1 = cc in absurd (omega arith)
 
