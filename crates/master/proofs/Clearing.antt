@@ -72,9 +72,13 @@ module _ (ls : SheetLines) (h : List Event) (t : List Entry) (l : ℕ) where
       ap (λ n. eqb n (length (ls .slaves)))
       (count-same (holds quality.Cleared t l) (λ c. clears c (reading ls c h)) (ls .slaves) (every-map (Same ls h t) (λ c. isCleared c (entryOf t c) ≡ clears c (reading ls c h)) (ls .slaves) (λ c e. seen-cleared c (entryOf t c) ∙ ap (clears c) e) same))
 
+  pub dead-closed : Some-one (Idle ls h t) (ls .slaves) → eqb (countBy (holds quality.Cleared t l) (ls .slaves)) (length (ls .slaves)) ≡ false
+  dead-closed i =
+      not-full (holds quality.Cleared t l) (ls .slaves) (some-map (Idle ls h t) (λ c. isCleared c (entryOf t c) ≡ false) (ls .slaves) (λ c x. (λ j. cond (x .0 j) ((seen-passed (entryOf t c .stage) ∙ ap hasPassed (x .1)) j) (entryOf t c .once))) i)
+
   dead-go : Some-one (Idle ls h t) (ls .slaves) → eqb (countBy (holds quality.Cleared t l) (ls .slaves)) (length (ls .slaves)) ≡ allCleared ls h
   dead-go i =
-      not-full (holds quality.Cleared t l) (ls .slaves) (some-map (Idle ls h t) (λ c. isCleared c (entryOf t c) ≡ false) (ls .slaves) (λ c x. (λ j. cond (x .0 j) ((seen-passed (entryOf t c .stage) ∙ ap hasPassed (x .1)) j) (entryOf t c .once))) i)
+      dead-closed i
       ∙ sym (not-full (λ c. clears c (reading ls c h)) (ls .slaves) (some-map (Idle ls h t) (λ c. clears c (reading ls c h) ≡ false) (ls .slaves) (λ c x. (λ j. cond (x .0 j) (ap hasPassed (x .2) j) (reading ls c h .once))) i))
 
 go-by : (ls : SheetLines) (h : List Event) (s : State) → Agrees ls h s → going s ≡ allCleared ls h

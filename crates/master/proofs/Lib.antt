@@ -21,3 +21,4 @@ pub mod Ticking
 pub mod Walking
 pub mod Working
 pub mod Turning
+pub mod Turns
