@@ -22,3 +22,4 @@ pub mod Walking
 pub mod Working
 pub mod Turning
 pub mod Turns
+pub mod Standing

@@ -5,3 +5,4 @@ pub mod Session
 pub mod Step
 pub mod Table
 pub mod Views
+pub mod Stands
