@@ -43,6 +43,7 @@ use Rattle.master.specs.declared.types.Sweep.the-variants.{Begun}
 use Rattle.master.specs.declared.types.Verdict.{Verdict}
 use Rattle.master.specs.declared.types.Verdict.the-variants.{Met, Missed}
 use Rattle.master.specs.declared.types.Word.{Word}
+use Rattle.master.proofs.Choosing.{choose}
 use Rattle.master.proofs.Hearing.{inputted, hearing, hearing-seen, far-seen}
 use Rattle.master.proofs.Seeing.{seen, tryOf}
 use Rattle.master.specs.Record.{Every}
@@ -113,10 +114,6 @@ pub record Left (m : Bool) (b : Brought) (s u : State) : Type 0 where
   pub entries : u .entries ≡ s .entries
   pub lines : u .lines ≡ s .lines
   pub phase : (u .phase ≡ Running) ⊎ ((m ≡ true) × (isRunning (u .phase) ≡ false) × Bad b)
-
-choose : {X : Type 0} (P : X → Type 0) (b : Bool) (x y : X) → P x → P y → P (cond b x y)
-choose P true x y p q = p
-choose P false x y p q = q
 
 left-by : (b : Brought) (s : State) → s .phase ≡ Running → Left true b s (broughtBy b s)
 left-by brought.Nothing s h = record { entries = refl; lines = refl; phase = inl h }

@@ -98,7 +98,7 @@ all-ticked own last (c ∷ cs) k s r l =
 seen-ticked : (ls : SheetLines) (h : List Event) (t u : List Entry) (d : SlaveLines) → Ticked t u d → Same ls h t d → Same ls (h ++ tick ∷ []) u d
 seen-ticked ls h t u d e k = ap seen e ∙ seen-tick d (entryOf t d) ∙ ap (λ r. read ls d r tick) k ∙ sym (pushed ls d h tick)
 
-some-zip : (P Q R : SlaveLines → Type 0) (cs : List SlaveLines) → ((c : SlaveLines) → P c → Q c → R c) → Every P cs → Some-one Q cs → Some-one R cs
+pub some-zip : (P Q R : SlaveLines → Type 0) (cs : List SlaveLines) → ((c : SlaveLines) → P c → Q c → R c) → Every P cs → Some-one Q cs → Some-one R cs
 some-zip P Q R [] f h k = absurd k
 some-zip P Q R (c ∷ cs) f h (inl p) = inl (f c (h .0) p)
 some-zip P Q R (c ∷ cs) f h (inr p) = inr (some-zip P Q R cs f (h .1) p)

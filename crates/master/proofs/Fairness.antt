@@ -32,6 +32,7 @@ use Rattle.master.specs.declared.types.Verdict.{Verdict}
 use Rattle.master.specs.declared.types.Verdict.the-variants.{Met, Missed}
 use Rattle.master.specs.declared.types.Word.{Word}
 use Rattle.master.specs.declared.types.Word.the-variants as word
+use Rattle.master.proofs.Choosing.{choose, no}
 use Rattle.master.proofs.Seeing.{made}
 
 abbrev pub dueReset : Stage → Bool
@@ -46,13 +47,6 @@ dueReset (ResetDue k) = true
 
 abbrev pub Fair : SlaveLines → Entry → Type 0
 Fair c e = dueReset (e .stage) ≡ true → isSpared c e ≡ false
-
-no : {X : Type 0} → false ≡ true → X
-no e = let z : _≡_ {A = ℕ} 0 1 = cc in absurd (omega arith)
-
-choose : {X : Type 0} (P : X → Type 0) (b : Bool) (x y : X) → P x → P y → P (cond b x y)
-choose P true x y p q = p
-choose P false x y p q = q
 
 module _ (c : SlaveLines) (b : Bool) (l : Option Letter) (o : Bool) where
   -- a state other than Operational

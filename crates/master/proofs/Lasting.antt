@@ -32,14 +32,11 @@ use Rattle.master.specs.declared.types.Plan.{Plan}
 use Rattle.master.specs.declared.types.Plan.the-variants as plan
 use Rattle.master.specs.declared.types.ResetKind.the-variants as reset
 use Rattle.master.specs.declared.types.Sweep.the-variants.{Begun}
+use Rattle.master.proofs.Choosing.{choose}
 use Rattle.master.proofs.Leading.{getD-fresh}
 use Rattle.master.proofs.Origins.{Known, known}
 use Rattle.master.specs.Record.{Every}
 use Rattle.master.proofs.Spread.{every-map, every-zip, changed-long, changedBy, changedBy-long, spread, spread-all, applied-long}
-
-choose : {X : Type 0} (P : X → Type 0) (b : Bool) (x y : X) → P x → P y → P (cond b x y)
-choose P true x y p q = p
-choose P false x y p q = q
 
 module _ (ls : SheetLines) (k : SlavesKeep (ls .own) 0 (ls .slaves)) (P : SlaveLines → Entry → Type 0)
     (steps : (c : SlaveLines) (e : Entry) (i : Input) → P c e → P c (stepped c e i .entry)) (changes : (g : Change) (c : SlaveLines) (e : Entry) → P c e → P c (changeBy g c e)) (first : (c : SlaveLines) → P c fresh-entry) where

@@ -1,4 +1,5 @@
 pub mod Agreement
+pub mod Choosing
 pub mod Clearing
 pub mod Clocking
 pub mod Fairness
@@ -17,9 +18,9 @@ pub mod Putting
 pub mod Seeing
 pub mod Setting
 pub mod Spread
+pub mod Standing
 pub mod Ticking
-pub mod Walking
-pub mod Working
 pub mod Turning
 pub mod Turns
-pub mod Standing
+pub mod Walking
+pub mod Working

@@ -10,6 +10,7 @@ use Rattle.frames.specs.Lists.{accepts}
 use Rattle.sheet.specs.Format.{SheetLines}
 use Rattle.master.specs.Network.{State, isHalted, planned, planContent}
 use Rattle.master.specs.Session.{PortState, Machine, Call, hear, pass, work, take, Worked, placed, idle, refused, Step, hears, passes, works, takes, isCommand, leaves, placing, worksOn, after, stepOf, putBy, Leads, fresh, then, takenOf, enteredOf, left, entered}
+use Rattle.master.proofs.Choosing.{choose}
 
 left-more : (tr : List Step) (x : Step) → left (tr ++ x ∷ []) ≡ left tr ++ takenOf x
 left-more [] x = append-nil (takenOf x)
@@ -18,10 +19,6 @@ left-more (y ∷ tr) x = ap (λ z. takenOf y ++ z) (left-more tr x) ∙ sym (app
 entered-more : (tr : List Step) (x : Step) → entered (tr ++ x ∷ []) ≡ entered tr ++ enteredOf x
 entered-more [] x = append-nil (enteredOf x)
 entered-more (y ∷ tr) x = ap (λ z. enteredOf y ++ z) (entered-more tr x) ∙ sym (append-assoc (enteredOf y) (entered tr) (enteredOf x))
-
-choose : {X : Type 0} (P : X → Type 0) (b : Bool) (x y : X) → P x → P y → P (cond b x y)
-choose P true x y p q = p
-choose P false x y p q = q
 
 -- what a call takes from the list and adds to it
 abbrev Moves : List Content → Step → List Content → Type 0

@@ -25,14 +25,8 @@ use Rattle.master.specs.declared.types.Duty.the-variants as duty
 use Rattle.master.specs.declared.types.Stage.{Stage}
 use Rattle.master.specs.declared.types.Stage.the-variants.{AwaitBoot, Ask, Asked, ListenState, ListenControl, Passed, Retry, ResetDue}
 use Rattle.master.specs.declared.types.Word.{Word}
+use Rattle.master.proofs.Choosing.{choose, no}
 use Rattle.master.proofs.Seeing.{tryOf}
-
-no : {X : Type 0} → false ≡ true → X
-no e = let z : _≡_ {A = ℕ} 0 1 = cc in absurd (omega arith)
-
-choose : {X : Type 0} (P : X → Type 0) (b : Bool) (x y : X) → P x → P y → P (cond b x y)
-choose P true x y p q = p
-choose P false x y p q = q
 
 -- the event is no start that reaches the slave
 abbrev pub Other : SheetLines → SlaveLines → Event → Type 0

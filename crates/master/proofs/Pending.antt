@@ -50,16 +50,14 @@ use Rattle.master.specs.declared.types.Sweep.the-variants.{Over, Begun, Single
 use Rattle.master.specs.declared.types.Verdict.{Verdict}
 use Rattle.master.specs.declared.types.Verdict.the-variants.{Met, Missed}
 use Rattle.master.specs.declared.types.Word.{Word}
+use Rattle.master.proofs.Choosing.{choose, no}
 use Rattle.master.proofs.Agreement.{Some-one, some-found}
+use Rattle.master.proofs.Clocking.{some-zip}
 use Rattle.master.proofs.Clearing.{not-full}
 use Rattle.master.proofs.Leading.{getD-fresh}
 use Rattle.master.proofs.Origins.{Known, known}
 use Rattle.master.proofs.Seeing.{made}
 use Rattle.master.proofs.Spread.{every-map, every-zip, has, entry-same, changed-long, changedBy, changedBy-long, spread, spread-all, applied-long}
-
-choose : {X : Type 0} (P : X → Type 0) (b : Bool) (x y : X) → P x → P y → P (cond b x y)
-choose P true x y p q = p
-choose P false x y p q = q
 
 -- stages from which only a request leads on
 abbrev firstCheck : Check → Bool
@@ -83,9 +81,6 @@ idles (ResetDue k) = true
 pub record Stuck (c : SlaveLines) (e : Entry) : Type 0 where
   pub stage : idles (e .stage) ≡ true
   pub uncl : (c .mandatory ≡ true) ⊎ (e .once ≡ false)
-
-no : {X : Type 0} → false ≡ true → X
-no e = let z : _≡_ {A = ℕ} 0 1 = cc in absurd (omega arith)
 
 not-passed : (x : Stage) → idles x ≡ true → isPassed x ≡ false
 not-passed (AwaitBoot n) e = refl
@@ -195,11 +190,6 @@ lost-stuck c e i h m = record { stage = go c e i h; uncl = inl m }
     go c e (input.Heard s) h = nil h
     go c e (input.Replied r) h = on-reply c r (e .stage) e h
     go c e input.Tick h = on-tick c (e .stage) e h
-
-some-zip : (P Q R : SlaveLines → Type 0) (cs : List SlaveLines) → ((c : SlaveLines) → P c → Q c → R c) → Every P cs → Some-one Q cs → Some-one R cs
-some-zip P Q R [] f h k = absurd k
-some-zip P Q R (c ∷ cs) f h (inl p) = inl (f c (h .0) p)
-some-zip P Q R (c ∷ cs) f h (inr p) = inr (some-zip P Q R cs f (h .1) p)
 
 module _ (ls : SheetLines) (k : SlavesKeep (ls .own) 0 (ls .slaves)) where
   -- no sweep is under way, or a slave is stuck, or none is listed

@@ -18,6 +18,7 @@ use Rattle.master.specs.Record.{Every, Event, heard, tick, put, MayPut}
 use Rattle.master.specs.Session.{PortState, Machine, Call, hear, pass, work, take, Worked, placed, idle, refused, Step, placing, worksOn, after, stepOf, putBy, events, noted, recordOf, Leads, fresh, then}
 use Rattle.master.specs.Table.{entryOf}
 use Rattle.master.specs.declared.types.Phase.the-variants.{Running, StopDue}
+use Rattle.master.proofs.Choosing.{choose}
 use Rattle.master.proofs.Agreement.{Agrees, live, stopping, halted, state}
 use Rattle.master.proofs.Fairness.{Fair, fair-step, fair-change, fair-fresh}
 use Rattle.master.proofs.Lasting.{Holds, holds}
@@ -38,10 +39,6 @@ split-last (y ∷ ys) (b ∷ bs) after e x h =
     let head : y ≡ b = cc in
     let tail : ys ++ x ∷ [] ≡ bs ++ e ∷ after = cc in
     ⊎-elim (λ p. inl (p .0, λ i. head i ∷ p .1 i)) (λ p. inr ((λ i. sym head i ∷ p .0 i), p .1)) (split-last ys bs after e x tail)
-
-choose : {X : Type 0} (P : X → Type 0) (b : Bool) (x y : X) → P x → P y → P (cond b x y)
-choose P true x y p q = p
-choose P false x y p q = q
 
 module _ (ls : SheetLines) (k : SlavesKeep (ls .own) 0 (ls .slaves)) where
   abbrev Puts : List Event → Worked → Type 0

@@ -34,6 +34,7 @@ use Rattle.master.specs.declared.types.Quality.the-variants as quality
 use Rattle.master.specs.declared.types.ResetKind.the-variants as reset
 use Rattle.master.specs.declared.types.Sweep.{Sweep}
 use Rattle.master.specs.declared.types.Sweep.the-variants.{Over, Begun}
+use Rattle.master.proofs.Choosing.{choose}
 use Rattle.master.proofs.Agreement.{Some-one, Same, Idle, Agrees, live, stopping, halted, state, pushed, every-found}
 use Rattle.master.proofs.Clearing.{go-law, dead-closed, count-none}
 use Rattle.master.proofs.Freely.{away, Starts, Turned, turned}
@@ -42,10 +43,6 @@ use Rattle.master.proofs.Owing.{Other, owed-step, start-owed}
 use Rattle.master.proofs.Pending.{Ready, ready, swept-out}
 use Rattle.master.proofs.Seeing.{seen, tryOf}
 use Rattle.master.proofs.Turning.{inArc, arc-self}
-
-choose : {X : Type 0} (P : X → Type 0) (b : Bool) (x y : X) → P x → P y → P (cond b x y)
-choose P true x y p q = p
-choose P false x y p q = q
 
 -- what is heard and what ticks does not change who was served last
 brought-last : (b : Brought) (s : State) → broughtBy b s .last ≡ s .last
