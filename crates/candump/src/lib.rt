@@ -1,4 +1,6 @@
 // Logs of CAN frames in the format of `candump -L`: the frame that a line says, and the milliseconds between time stamps.
+#![tactic(auto)]
+
 pub mod clock;
 pub mod entry;
 mod number;

@@ -1,4 +1,6 @@
 // A controller in small: its own port, a tick of 1 ms, and the main loop.
+#![tactic(auto)]
+
 mod bus;
 mod transmit;
 

@@ -1,6 +1,7 @@
 pub mod Refusals
 pub mod Bytes
 pub mod Contents
+pub mod Fields
 pub mod Nmt
 pub mod Sdo
 pub mod Signs

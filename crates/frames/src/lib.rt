@@ -1,4 +1,6 @@
 // CAN frames, the CANopen messages that a network start-up sends and hears, and the queue in which frames wait.
+#![tactic(auto)]
+
 pub mod error_control;
 pub mod frame;
 pub mod identified;

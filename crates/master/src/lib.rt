@@ -1,5 +1,7 @@
 // The NMT master: the checks of a slave's try, the entry of each slave, the network, the public calls, whole rows of calls, and the
 // laws of every session.
+#![tactic(auto)]
+
 pub mod calls;
 pub mod checks;
 pub mod laws;

@@ -1,4 +1,6 @@
 // Puts a fixed row of frames through each kind of port, and prints what leaves it at which tick.
+#![tactic(auto)]
+
 use frames::frame::Frame;
 use frames::nmt::{Command, NmtMessage};
 use frames::queue::Queue;

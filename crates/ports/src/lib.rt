@@ -1,4 +1,6 @@
 // Ports: where frames wait for the bus. All kinds have one meaning.
+#![tactic(auto)]
+
 pub mod gap_port;
 pub mod hand_over;
 pub mod mailbox;

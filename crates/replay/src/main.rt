@@ -1,5 +1,7 @@
 // Lets a master hear a log of `candump -L`: sheet.txt and candump.log of the folder, or two files that are named. Prints
 // what the master would have sent, and what it came to.
+#![tactic(auto)]
+
 mod play;
 mod print;
 

@@ -1,4 +1,6 @@
 // Sessions: the text of one, and its run on a fresh master whose port is a gap port on a ring of 64.
+#![tactic(auto)]
+
 pub mod lines;
 pub mod message;
 mod notes;

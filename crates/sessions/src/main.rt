@@ -1,4 +1,6 @@
 // Runs each session that the file `cases` names, plain or explained, and prints what it comes to under that line.
+#![tactic(auto)]
+
 use anyhow::anyhow;
 use script::{Style, run};
 use std::fs;

@@ -1,5 +1,7 @@
 // Runs the session of a folder: sheet.txt and session.txt, or two files that are named. With --explain in front, each
 // line that it prints has a note for the fitter.
+#![tactic(auto)]
+
 use anyhow::anyhow;
 use script::{Style, run};
 use std::io::{BufWriter, Write};

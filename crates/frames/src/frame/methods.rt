@@ -1,8 +1,7 @@
 ghost use Rattle.std.specs.Prelude.{◌≡◌, ◌%◌, ◌≤◌, length, Decides};
+ghost use Rattle.std.specs.Cmp.{partial_equiv_from_equiv};
 ghost use Rattle.frames.specs.Contents.{Made, content_of};
-ghost use Rattle.std.specs.Cmp.Rules.{comparing};
-ghost use Rattle.std.proofs.Common.{rules, arith};
-ghost use Rattle.std.specs.Cmp as Keys;
+ghost use Rattle.frames.specs.Fields.{same_fields, same_fields_equiv};
 
 use super::Frame;
 use crate::refusal::Refusal;
@@ -50,11 +49,14 @@ impl Frame {
 
 // Frames are equal exactly if they are the same value.
 impl PartialEq for Frame {
-    ghost equals = { λ f g r. Decides r (f ≡ g) };
+    ghost eq = { same_fields };
 
-    ghost laws = { Keys.partial_equiv_from_equiv (first_of (Prim.search (comparing, rules), Prim.grind (arith, Self.row.coded.inj))) };
+    ghost laws = { partial_equiv_from_equiv same_fields_equiv };
 
-    fn eq(&self, other: &Frame) -> bool {
+    fn eq(&self, other: &Frame) -> bool
+        ensures fields { result ≡ same_fields self.now other.now }
+        ensures same { Decides result (self.now ≡ other.now) }
+    {
         if self.id != other.id || self.len != other.len {
             return false;
         }
@@ -63,5 +65,5 @@ impl PartialEq for Frame {
 }
 
 impl Eq for Frame {
-    ghost laws = { first_of (Prim.search (comparing, rules), Prim.grind (arith, Self.row.coded.inj)) };
+    ghost laws = { same_fields_equiv };
 }
