@@ -5,8 +5,8 @@ use Rattle.std.specs.Cmp.Lexicographic.{pointwise, lists_equiv}
 use Rattle.std.specs.Ordering.{on, eq_of_both}
 use Rattle.frames.specs.declared.frame.Frame.{Frame}
 
-abbrev pub same_fields : Frame → Frame → Bool
-same_fields = eq_of_both (on (λ (f : Frame). f.id) ◌==◌) (eq_of_both (on (λ (f : Frame). f.len) ◌==◌) (on (λ (f : Frame). f.bytes) (pointwise ◌==◌)))
+abbrev pub fields_agree : Frame → Frame → Bool
+fields_agree = eq_of_both (on (λ (f : Frame). f.id) ◌==◌) (eq_of_both (on (λ (f : Frame). f.len) ◌==◌) (on (λ (f : Frame). f.bytes) (pointwise ◌==◌)))
 
-pub same_fields_equiv : IsEquivalence same_fields
-same_fields_equiv = and_equiv (on_equiv (λ (f : Frame). f.id) nat_eq_equiv) (and_equiv (on_equiv (λ (f : Frame). f.len) nat_eq_equiv) (on_equiv (λ (f : Frame). f.bytes) (lists_equiv nat_eq_equiv)))
+pub fields_agree_equiv : IsEquivalence fields_agree
+fields_agree_equiv = and_equiv (on_equiv (λ (f : Frame). f.id) nat_eq_equiv) (and_equiv (on_equiv (λ (f : Frame). f.len) nat_eq_equiv) (on_equiv (λ (f : Frame). f.bytes) (lists_equiv nat_eq_equiv)))

@@ -1,7 +1,7 @@
 ghost use Rattle.std.specs.Prelude.{◌≡◌, ◌%◌, ◌≤◌, length, Decides};
 ghost use Rattle.std.specs.Cmp.{partial_equiv_from_equiv};
 ghost use Rattle.frames.specs.Contents.{Made, content_of};
-ghost use Rattle.frames.specs.Fields.{same_fields, same_fields_equiv};
+ghost use Rattle.frames.specs.Fields.{fields_agree, fields_agree_equiv};
 
 use super::Frame;
 use crate::refusal::Refusal;
@@ -49,12 +49,12 @@ impl Frame {
 
 // Frames are equal exactly if they are the same value.
 impl PartialEq for Frame {
-    ghost eq = { same_fields };
+    ghost eq = { fields_agree };
 
-    ghost laws = { partial_equiv_from_equiv same_fields_equiv };
+    ghost laws = { partial_equiv_from_equiv fields_agree_equiv };
 
     fn eq(&self, other: &Frame) -> bool
-        ensures fields { result ≡ same_fields self.now other.now }
+        ensures fields { result ≡ fields_agree self.now other.now }
         ensures same { Decides result (self.now ≡ other.now) }
     {
         if self.id != other.id || self.len != other.len {
@@ -65,5 +65,5 @@ impl PartialEq for Frame {
 }
 
 impl Eq for Frame {
-    ghost laws = { same_fields_equiv };
+    ghost laws = { fields_agree_equiv };
 }

@@ -5,8 +5,8 @@ use Rattle.frames.proofs.Same.{same_fields}
 use Rattle.frames.proofs.frame.methods.FramePartialEq.eq.Goals as goal
 use Rattle.std.proofs.lemmas.Bool.Decides.{Decides-eqb}
 
-pub returns : goal.returns
-returns c =
+pub returns-clause-same : goal.returns-clause-same
+returns-clause-same c =
     let f = c.args.self.now in
     let g = c.args.other.now in
     let places = slice_eq-Decides Decides-eqb f.bytes g.bytes c.eq.result c.eq.ensures in
