@@ -116,7 +116,7 @@ def main():
                 fields.add(m[1])
     for p in paths:
         t = read(p)
-        new = turn(t, True) if p.endswith(".antt") else "\n".join(l if l.lstrip().startswith("//") else turn(l, False) for l in t.split("\n"))
+        new = turn(t, True) if p.endswith(".antt") else "\n".join(l if l.lstrip().startswith("//") else turn(l, l.lstrip().startswith("ghost")) for l in t.split("\n"))
         if new != t:
             with open(p, "w", encoding="utf-8") as f:
                 f.write(new)

@@ -1,5 +1,5 @@
 -- How many wait in a mailbox. Assumes nothing.
-use Rattle.std.specs.Prelude.{◌≡◌, ℕ, ◌-◌, ◌≤◌, max, true, length, refl}
+use Rattle.std.specs.Prelude.{◌≡◌, ℕ, ◌≤◌, max, true, length, refl}
 use Rattle.std.proofs.Common.{arith}
 use Rattle.frames.specs.declared.frame.Frame.{Frame}
 use Rattle.ports.specs.declared.mailbox.Mailbox.{Mailbox}

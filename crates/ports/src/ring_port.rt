@@ -1,4 +1,4 @@
-ghost use Rattle.frames.proofs.QueueLaws.{queue-some, queue-within};
+ghost use Rattle.frames.proofs.QueueLaws.{queue_some, queue_within};
 ghost use Rattle.frames.specs.Waiting.{waiting as queueWaiting, most as queueMost};
 
 use super::port::Port;
@@ -15,9 +15,9 @@ impl<'a> Port for Queue<'a, Frame> {
 
     ghost pause = { λ _. 0 };
 
-    ghost least = { λ p. queue-some p };
+    ghost least = { λ p. queue_some p };
 
-    ghost within = { λ p. queue-within p };
+    ghost within = { λ p. queue_within p };
 
     fn room(&self) -> usize {
         Queue::room(self)

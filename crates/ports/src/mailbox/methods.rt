@@ -1,7 +1,7 @@
 ghost use Rattle.std.specs.Prelude.{◌≡◌, ◌-◌, [], length};
 ghost use Rattle.std.proofs.Common.{arith};
 ghost use Rattle.ports.specs.Mail.{mail_waiting};
-ghost use Rattle.ports.specs.MailLaws.{mail-within};
+ghost use Rattle.ports.specs.MailLaws.{mail_within};
 
 use super::{Mailbox, Slot};
 use crate::port::Port;
@@ -52,7 +52,7 @@ impl Port for Mailbox {
 
     ghost least = { λ _. omega arith };
 
-    ghost within = { mail-within };
+    ghost within = { mail_within };
 
     fn room(&self) -> usize {
         3 - self.waits() as usize

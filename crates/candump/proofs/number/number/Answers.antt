@@ -20,8 +20,8 @@ grown c =
 
 pub returns-in-err-digit : goal.returns-in-err-digit
 returns-in-err-digit c =
-    let none = c.from-residual.ensures in
-    let left = eqb-false (length c.args.digits.now) 0 (sym c.is-empty.ensures ∙ c.if-is-empty.false) in
+    let none = c.from_residual.ensures in
+    let left = eqb-false (length c.args.digits.now) 0 (sym c.is_empty.ensures ∙ c.if-is_empty.false) in
     let some : 0 < length c.args.digits.now = omega (arith, left) in
     let wrong : digit_value (get_or c.args.digits.now c.loop-b.b-index 0) < c.args.radix → ⊥ = subst (λ x. digit_value x < c.args.radix → ⊥) c.from.ensures c.in-err-digit.ensures.value in
     record {
@@ -29,14 +29,14 @@ returns-in-err-digit c =
       bound = subst (λ r. IfSome r (λ n. (length c.args.digits.now ≤ 10) × (n < c.args.radix ^ length c.args.digits.now))) (sym none) tt;
     }
 
-pub overflow-mul-n : goal.overflow-mul-n
-overflow-mul-n c =
+pub overflow_mul-n : goal.overflow_mul-n
+overflow_mul-n c =
     let g = grown (at·mul-n c).In-ok-digit in
     let same : c.loop-b.n * c.from-in-loop-b.result ≡ c.loop-b.n * c.args.radix = ap (λ r. c.loop-b.n * r) c.from-in-loop-b.ensures in
     omega (arith, g.1, same)
 
-pub overflow-add-n : goal.overflow-add-n
-overflow-add-n c =
+pub overflow_add-n : goal.overflow_add-n
+overflow_add-n c =
     let g = grown (at·add-n c).In-ok-digit in
     let same : c.loop-b.n * c.from-in-loop-b.result ≡ c.loop-b.n * c.args.radix = ap (λ r. c.loop-b.n * r) c.from-in-loop-b.ensures in
     omega (arith, g.1, same, c.from-in-loop-b-2.ensures)
@@ -59,7 +59,7 @@ pub returns : goal.returns
 returns c =
     let all : c.loop-b.b-index ≡ length c.args.digits.now = omega arith in
     let below : c.loop-b.n < c.args.radix ^ length c.args.digits.now = subst (λ k. c.loop-b.n < c.args.radix ^ k) all c.loop-b.invariant.1 in
-    let left = eqb-false (length c.args.digits.now) 0 (sym c.is-empty.ensures ∙ c.if-is-empty.false) in
+    let left = eqb-false (length c.args.digits.now) 0 (sym c.is_empty.ensures ∙ c.if-is_empty.false) in
     let some : 0 < length c.args.digits.now = omega (arith, left) in
     record {
       value = in_number c.args.radix c.loop-b.n c.args.digits.now c.loop-b.b-index some (omega arith) (omega arith) c.loop-b.invariant.0;

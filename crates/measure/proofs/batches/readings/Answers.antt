@@ -6,8 +6,8 @@ use Rattle.measure.proofs.batches.readings.Goals as goal
 pub loop-i-init : goal.loop-i-init
 loop-i-init c = none_yet (is_ok (reading c.args.text.now))
 
-pub overflow-add-read : goal.overflow-add-read
-overflow-add-read c =
+pub overflow_add-read : goal.overflow_add-read
+overflow_add-read c =
     let good : Bool = is_ok (reading c.args.text.now) in
     let before = at_most good c.loop-i.i in
     let one = at_most good 1 in

@@ -47,11 +47,11 @@ returns-after-loop-from g c =
       to_gap = c.loop-from.invariant.5;
     }
 
-pub returns-in-default : goal.returns-in-default
-returns-in-default g c =
+pub returns-in_default : goal.returns-in_default
+returns-in_default g c =
     let from = c.loop-from.from in
     let to = c.loop-from.to in
-    let back = held_back (g.P.Port.pause from) (g.P.Port.gap from) (g.Q.Port.most to) (g.Q.Port.waiting to) (g.P.Port.waiting from) (sym c.in-default.is ∙ c.take.ensures.answer) in
+    let back = held_back (g.P.Port.pause from) (g.P.Port.gap from) (g.Q.Port.most to) (g.Q.Port.waiting to) (g.P.Port.waiting from) (sym c.in_default.is ∙ c.take.ensures.answer) in
     let end = held c.take.ensures.list c.take.ensures.pauses ∙ sym back ∙ c.loop-from.invariant.0 in
     record {
       handed = end;

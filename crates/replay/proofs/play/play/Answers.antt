@@ -5,6 +5,6 @@ use Rattle.replay.proofs.play.play.Goals as goal
 -- a line is taken from a text that is not empty
 pub loop-name-smaller-in-ok-follow : goal.loop-name-smaller-in-ok-follow
 loop-name-smaller-in-ok-follow g c =
-    let filled = eqb-false (length c.loop-name.rest.now) 0 (sym c.is-empty.ensures ∙ c.loop-name-test.true) in
+    let filled = eqb-false (length c.loop-name.rest.now) 0 (sym c.is_empty.ensures ∙ c.loop-name-test.true) in
     let some : 0 < length c.loop-name.rest.now = omega (arith, filled) in
-    c.next-line.ensures.shorter some
+    c.next_line.ensures.shorter some

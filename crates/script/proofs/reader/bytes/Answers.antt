@@ -7,7 +7,7 @@ use Rattle.script.proofs.reader.bytes.Goals as goal
 
 pub returns-in-err-byte : goal.returns-in-err-byte
 returns-in-err-byte c =
-    ap (option_map bytes_of) c.from-residual.ensures
+    ap (option_map bytes_of) c.from_residual.ensures
     ∙ read_no_more (bytes_of c.loop-first.data) c.loop-first.rest.now _ c.in-Some.ensures c.in-err-byte.ensures
     ∙ c.loop-first.invariant
 
@@ -21,11 +21,11 @@ loop-first-preserved c =
 
 pub returns-in-err-byte-2 : goal.returns-in-err-byte-2
 returns-in-err-byte-2 c =
-    ap (option_map bytes_of) c.from-residual-in-err-byte-2.ensures
-    ∙ read_no_last (bytes_of c.loop-first.data) c.loop-first.rest.now c.in-default.ensures c.in-err-byte-2.ensures
+    ap (option_map bytes_of) c.from_residual-in-err-byte-2.ensures
+    ∙ read_no_last (bytes_of c.loop-first.data) c.loop-first.rest.now c.in_default.ensures c.in-err-byte-2.ensures
     ∙ c.loop-first.invariant
 
 pub returns : goal.returns
 returns c =
-    read_last (bytes_of c.loop-first.data) (bytes_of c.push-2.new.self) c.loop-first.rest.now c.in-ok-byte-2.field-0 c.in-default.ensures c.in-ok-byte-2.ensures c.push-2.ensures
+    read_last (bytes_of c.loop-first.data) (bytes_of c.push-2.new.self) c.loop-first.rest.now c.in-ok-byte-2.field-0 c.in_default.ensures c.in-ok-byte-2.ensures c.push-2.ensures
     ∙ c.loop-first.invariant

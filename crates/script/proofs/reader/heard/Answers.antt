@@ -6,12 +6,12 @@ use Rattle.script.proofs.reader.heard.Goals as goal
 
 pub returns-in-err-id : goal.returns-in-err-id
 returns-in-err-id c =
-    ap (option_map line_of) c.from-residual.ensures
+    ap (option_map line_of) c.from_residual.ensures
     ∙ frame_no_id c.args.value.now _ c.in-Some.ensures c.in-err-id.ensures
 
 pub returns-in-err-data : goal.returns-in-err-data
 returns-in-err-data c =
-    ap (option_map line_of) c.from-residual-in-err-data.ensures
+    ap (option_map line_of) c.from_residual-in-err-data.ensures
     ∙ frame_no_bytes c.args.value.now _ c.in-ok-id.id c.in-Some.ensures c.in-ok-id.ensures c.in-err-data.ensures
 
 pub returns-in-ok-data : goal.returns-in-ok-data
@@ -19,7 +19,7 @@ returns-in-ok-data c = frame_first c.args.value.now _ c.in-ok-id.id (bytes_of c.
 
 pub returns-in-err-id-2 : goal.returns-in-err-id-2
 returns-in-err-id-2 c =
-    ap (option_map line_of) c.from-residual-in-err-id-2.ensures
+    ap (option_map line_of) c.from_residual-in-err-id-2.ensures
     ∙ frame_none c.args.value.now c.in-None.ensures c.in-err-id-2.ensures
 
 pub returns-in-ok-id-2 : goal.returns-in-ok-id-2

@@ -10,4 +10,4 @@ tested xs ys r h = search (rules, bytes_eq-Decides)
 pub returns : goal.returns
 returns c =
     tested _ _ c.eq.result (slice_eq-Decides Decides-eqb _ _ c.eq.result c.eq.ensures)
-    ∙ ap (bytes_eq c.args.text.now) c.as-bytes.ensures.value
+    ∙ ap (bytes_eq c.args.text.now) c.as_bytes.ensures.value

@@ -5,4 +5,4 @@ use Rattle.master.proofs.network.Network.any_due.Goals as goal
 pub returns : goal.returns
 returns c =
     let n = c.args.self.now in
-    all_due n.table.entries c.listed-in.result (listed n) c.first-due.result c.is-some.result c.listed-in.ensures c.first-due.ensures c.is-some.ensures
+    all_due n.table.entries c.listed_in.result (listed n) c.first_due.result c.is_some.result c.listed_in.ensures c.first_due.ensures c.is_some.ensures

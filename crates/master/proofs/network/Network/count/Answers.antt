@@ -10,10 +10,10 @@ loop-place-preserved c =
     let lt : c.loop-place.place < length (listed n) = omega arith in
     elim c.if-has.branch [
       | then-has w ↦
-          let z = count_yes c.args.quality n.table.entries n.last (listed n) c.loop-place.place _ lt c.slave-at.ensures (sym c.has.ensures ∙ w.if-has.true) in
+          let z = count_yes c.args.quality n.table.entries n.last (listed n) c.loop-place.place _ lt c.slave_at.ensures (sym c.has.ensures ∙ w.if-has.true) in
           (omega (arith, w.n-is), omega (arith, w.n-is))
       | else-has w ↦
-          let z = count_no c.args.quality n.table.entries n.last (listed n) c.loop-place.place _ lt c.slave-at.ensures (sym c.has.ensures ∙ w.if-has.false) in
+          let z = count_no c.args.quality n.table.entries n.last (listed n) c.loop-place.place _ lt c.slave_at.ensures (sym c.has.ensures ∙ w.if-has.false) in
           (omega (arith, w.n-is), omega (arith, w.n-is))
     ]
 

@@ -10,13 +10,13 @@ pub returns-in-Some : goal.returns-in-Some
 returns-in-Some c =
     let n = c.args.self.now in
     let o = ap (λ (e : Entry). duty_of c.args.go e.stage) c.at.ensures in
-    sym (due_at c.args.go n.table.entries (listed n) c.args.to c.loop-place.place (slave_of c.slave-at-c.result.now) c.loop-place-test.true c.requires c.slave-at-c.ensures (Some c.in-Some.duty) (sym c.in-Some.is ∙ c.duty-of.ensures ∙ o)) ∙ c.loop-place.invariant
+    sym (due_at c.args.go n.table.entries (listed n) c.args.to c.loop-place.place (slave_of c.slave_at-c.result.now) c.loop-place-test.true c.requires c.slave_at-c.ensures (Some c.in-Some.duty) (sym c.in-Some.is ∙ c.duty_of.ensures ∙ o)) ∙ c.loop-place.invariant
 
 pub loop-place-preserved : goal.loop-place-preserved
 loop-place-preserved c =
     let n = c.args.self.now in
     let o = ap (λ (e : Entry). duty_of c.args.go e.stage) c.at.ensures in
-    sym (due_at c.args.go n.table.entries (listed n) c.args.to c.loop-place.place (slave_of c.slave-at-c.result.now) c.loop-place-test.true c.requires c.slave-at-c.ensures None (sym c.in-default.is ∙ c.duty-of.ensures ∙ o)) ∙ c.loop-place.invariant
+    sym (due_at c.args.go n.table.entries (listed n) c.args.to c.loop-place.place (slave_of c.slave_at-c.result.now) c.loop-place-test.true c.requires c.slave_at-c.ensures None (sym c.in_default.is ∙ c.duty_of.ensures ∙ o)) ∙ c.loop-place.invariant
 
 pub returns : goal.returns
 returns c =

@@ -7,34 +7,34 @@ use Rattle.master.proofs.Shortcuts.{hinted}
 use Rattle.master.proofs.Walking.{find_here, find_more, find_none}
 use Rattle.master.proofs.network.Network.place_of.Goals as goal
 
-pub returns-then-slave-at-node : goal.returns-then-slave-at-node
-returns-then-slave-at-node c =
+pub returns-then-slave_at-node : goal.returns-then-slave_at-node
+returns-then-slave_at-node c =
     let n = c.args.self.now in
-    let inside : get_or n.hints (c.args.node % 128) 0 < length (listed n) = omega (arith, c.listed-in.ensures) in
+    let inside : get_or n.hints (c.args.node % 128) 0 < length (listed n) = omega (arith, c.listed_in.ensures) in
     record {
-      slave = hinted (lines_of n.sheet).own (listed n) (keeps_to (lines_of n.sheet) n.sheet.kept).slaves _ c.args.node (slave_of c.slave-at.result.now) inside c.slave-at.ensures c.if-slave-at-node.true;
+      slave = hinted (lines_of n.sheet).own (listed n) (keeps_to (lines_of n.sheet) n.sheet.kept).slaves _ c.args.node (slave_of c.slave_at.result.now) inside c.slave_at.ensures c.if-slave_at-node.true;
       inside = inside;
     }
 
-pub returns-then-slave-at-node-2 : goal.returns-then-slave-at-node-2
-returns-then-slave-at-node-2 c =
+pub returns-then-slave_at-node-2 : goal.returns-then-slave_at-node-2
+returns-then-slave_at-node-2 c =
     let n = c.args.self.now in
-    let inside : c.loop-place.place < length (listed n) = omega (arith, c.listed-in-place-end.ensures) in
+    let inside : c.loop-place.place < length (listed n) = omega (arith, c.listed_in-place-end.ensures) in
     record {
-      slave = find_here c.args.node (listed n) c.loop-place.place (slave_of c.slave-at-in-loop-place.result.now) inside c.slave-at-in-loop-place.ensures c.if-slave-at-node-2.true ∙ c.loop-place.invariant;
+      slave = find_here c.args.node (listed n) c.loop-place.place (slave_of c.slave_at-in-loop-place.result.now) inside c.slave_at-in-loop-place.ensures c.if-slave_at-node-2.true ∙ c.loop-place.invariant;
       inside = inside;
     }
 
 pub loop-place-preserved : goal.loop-place-preserved
 loop-place-preserved c =
     let n = c.args.self.now in
-    let inside : c.loop-place.place < length (listed n) = omega (arith, c.listed-in-place-end.ensures) in
-    sym (find_more c.args.node (listed n) c.loop-place.place (slave_of c.slave-at-in-loop-place.result.now) inside c.slave-at-in-loop-place.ensures c.if-slave-at-node-2.false) ∙ c.loop-place.invariant
+    let inside : c.loop-place.place < length (listed n) = omega (arith, c.listed_in-place-end.ensures) in
+    sym (find_more c.args.node (listed n) c.loop-place.place (slave_of c.slave_at-in-loop-place.result.now) inside c.slave_at-in-loop-place.ensures c.if-slave_at-node-2.false) ∙ c.loop-place.invariant
 
 pub returns : goal.returns
 returns c =
     let n = c.args.self.now in
     record {
-      slave = sym (find_none c.args.node (listed n) c.loop-place.place (omega (arith, c.listed-in-place-end.ensures))) ∙ c.loop-place.invariant;
+      slave = sym (find_none c.args.node (listed n) c.loop-place.place (omega (arith, c.listed_in-place-end.ensures))) ∙ c.loop-place.invariant;
       inside = tt;
     }

@@ -7,11 +7,11 @@ use Rattle.master.specs.Session.{Machine, hear, after}
 use Rattle.master.proofs.Calling.{not_heard, heard_frame}
 use Rattle.master.proofs.nmt_master.Master.heard.Goals as goal
 
-pub returns-in-default : goal.returns-in-default
-returns-in-default g c =
+pub returns-in_default : goal.returns-in_default
+returns-in_default g c =
     let m = c.args.self.now in
     let at : Machine = machine_by g.P.Port.waiting g.P.Port.most g.P.Port.gap g.P.Port.pause m in
-    let h = not_heard c.args.id c.args.bytes.now at (keeps_to (lines_of m.net.sheet) m.net.sheet.kept) c.in-default.ensures.1 in
+    let h = not_heard c.args.id c.args.bytes.now at (keeps_to (lines_of m.net.sheet) m.net.sheet.kept) c.in_default.ensures.1 in
     record { answer = h.answer; state = h.state; law = h.law }
 
 pub returns : goal.returns

@@ -9,19 +9,19 @@ use Rattle.master.specs.Views.{view}
 use Rattle.master.proofs.Calling.{work_halted, work_idle, work_full, work_put}
 use Rattle.master.proofs.nmt_master.Master.work.Goals as goal
 
-pub returns-then-is-halted : goal.returns-then-is-halted
-returns-then-is-halted g c =
+pub returns-then-is_halted : goal.returns-then-is_halted
+returns-then-is_halted g c =
     let m = c.args.self.now in
     let at : Machine = machine_by g.P.Port.waiting g.P.Port.most g.P.Port.gap g.P.Port.pause m in
-    let w = work_halted at (keeps_to (lines_of m.net.sheet) m.net.sheet.kept) (sym c.is-halted.ensures ∙ c.if-is-halted.true) in
+    let w = work_halted at (keeps_to (lines_of m.net.sheet) m.net.sheet.kept) (sym c.is_halted.ensures ∙ c.if-is_halted.true) in
     record { answer = w.answer; state = w.state; law = w.law }
 
-pub returns-in-default : goal.returns-in-default
-returns-in-default g c =
+pub returns-in_default : goal.returns-in_default
+returns-in_default g c =
     let m = c.args.self.now in
     let at : Machine = machine_by g.P.Port.waiting g.P.Port.most g.P.Port.gap g.P.Port.pause m in
-    let w = work_idle at (keeps_to (lines_of m.net.sheet) m.net.sheet.kept) (sym c.is-halted.ensures ∙ c.if-is-halted.false) c.plan-plan.result c.plan-plan.ensures
-    (ap (option_map content_of) (sym c.in-default.is) ∙ c.frame-of.ensures) (view c.carry-out.new.self) c.carry-out.ensures in
+    let w = work_idle at (keeps_to (lines_of m.net.sheet) m.net.sheet.kept) (sym c.is_halted.ensures ∙ c.if-is_halted.false) c.plan-plan.result c.plan-plan.ensures
+    (ap (option_map content_of) (sym c.in_default.is) ∙ c.frame_of.ensures) (view c.carry_out.new.self) c.carry_out.ensures in
     record { answer = w.answer; state = w.state; law = w.law }
 
 pub returns-then-not-put : goal.returns-then-not-put
@@ -29,7 +29,7 @@ returns-then-not-put g c =
     let m = c.args.self.now in
     let e = c.put.ensures in
     let w = work_full (view m.net) (g.P.Port.waiting m.port) _ (g.P.Port.most m.port) _ (g.P.Port.gap m.port) _ (g.P.Port.pause m.port) _ (keeps_to (lines_of m.net.sheet) m.net.sheet.kept)
-    (sym c.is-halted.ensures ∙ c.if-is-halted.false) c.plan-plan.result c.plan-plan.ensures c.in-Some.frame (ap (option_map content_of) (sym c.in-Some.is) ∙ c.frame-of.ensures)
+    (sym c.is_halted.ensures ∙ c.if-is_halted.false) c.plan-plan.result c.plan-plan.ensures c.in-Some.frame (ap (option_map content_of) (sym c.in-Some.is) ∙ c.frame_of.ensures)
     (sym e.answer ∙ c.if-not-put.true) e.list e.most_same e.gap_same e.pause_same in
     record { answer = w.answer; state = w.state; law = w.law }
 
@@ -37,7 +37,7 @@ pub returns : goal.returns
 returns g c =
     let m = c.args.self.now in
     let e = c.put.ensures in
-    let w = work_put (view m.net) (view c.carry-out-2.new.self) (g.P.Port.waiting m.port) _ (g.P.Port.most m.port) _ (g.P.Port.gap m.port) _ (g.P.Port.pause m.port) _ (keeps_to (lines_of m.net.sheet) m.net.sheet.kept)
-    (sym c.is-halted.ensures ∙ c.if-is-halted.false) c.plan-plan.result c.plan-plan.ensures c.in-Some.frame (ap (option_map content_of) (sym c.in-Some.is) ∙ c.frame-of.ensures)
-    (sym e.answer ∙ c.if-not-put.false) e.list e.most_same e.gap_same e.pause_same c.carry-out-2.ensures in
+    let w = work_put (view m.net) (view c.carry_out-2.new.self) (g.P.Port.waiting m.port) _ (g.P.Port.most m.port) _ (g.P.Port.gap m.port) _ (g.P.Port.pause m.port) _ (keeps_to (lines_of m.net.sheet) m.net.sheet.kept)
+    (sym c.is_halted.ensures ∙ c.if-is_halted.false) c.plan-plan.result c.plan-plan.ensures c.in-Some.frame (ap (option_map content_of) (sym c.in-Some.is) ∙ c.frame_of.ensures)
+    (sym e.answer ∙ c.if-not-put.false) e.list e.most_same e.gap_same e.pause_same c.carry_out-2.ensures in
     record { answer = w.answer; state = w.state; law = w.law }

@@ -3,10 +3,10 @@ use Rattle.ports.specs.Mail.{mail_waiting}
 use Rattle.ports.proofs.MailSteps.{nearer_fair, nearer_rest, given_first, kept_rest, paused_none}
 use Rattle.ports.proofs.mailbox.methods.MailboxPort.take.Goals as goal
 
-pub invariant-of-self : goal.invariant-of-self
-invariant-of-self c =
+pub invariant_of-self : goal.invariant_of-self
+invariant_of-self c =
     let m = c.args.self.now in
-    (rw (c.nearer-self.ensures.0, c.nearer-self-2.ensures.0, c.nearer-self-3.ensures.0) (nearer_fair m.a.turn m.b.turn m.c.turn m.turns_ok), tt)
+    record { turns_ok = rw (c.nearer-self.ensures.0, c.nearer-self-2.ensures.0, c.nearer-self-3.ensures.0) (nearer_fair m.a.turn m.b.turn m.c.turn m.turns_ok) }
 
 pub returns : goal.returns
 returns c =
