@@ -1,4 +1,6 @@
 // Assignment sheets: which slaves a master has, and how each is checked, set up and watched.
+#![tactic(auto)]
+
 mod cursor;
 pub mod digits;
 pub mod faults;
