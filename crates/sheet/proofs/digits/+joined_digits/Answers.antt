@@ -1,7 +1,6 @@
-use Rattle.std.proofs.Common.{◌≡◌, ℕ, ◌+◌, ◌-◌, ◌*◌, ◌<◌, ◌≤◌, true, cond, ◌&&◌, ltb, length, get_or, take, Ok, Err, sym, refl, ap, ◌∙◌, inl, inr, arith, rules}
+use Rattle.std.proofs.Common.{◌-◌, ◌≤◌, length, get_or, Err, sym, ap, ◌∙◌, inl, inr, arith, rules}
 use Rattle.std.proofs.lemmas.Result.{err_from_is_err_and}
-use Rattle.std.proofs.lemmas.Bool.{lt-ltb, and_from, cond-true, cond-false, and_right, and_left, le-ltb}
-use Rattle.sheet.specs.Decimal.{number_of, digit_of, fault_at}
+use Rattle.sheet.specs.Decimal.{digit_of}
 use Rattle.sheet.proofs.Numbers.{number_last, number_ok, number_err, joined_by}
 use Rattle.sheet.proofs.digits.+joined_digits.Goals as goal
 use Rattle.sheet.proofs.digits.+joined_digits.Goals.{then-n-eq0-via-then-n-eq0, then-n-eq0-via-else-n-eq0+then-wide-gt4294967295}

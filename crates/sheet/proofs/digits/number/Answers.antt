@@ -1,4 +1,3 @@
-use Rattle.std.proofs.Common.{refl, arith}
 use Rattle.sheet.proofs.Numbers.{number_long, number_laws}
 use Rattle.sheet.proofs.digits.number.Goals as goal
 

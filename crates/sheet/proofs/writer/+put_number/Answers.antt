@@ -1,4 +1,4 @@
-use Rattle.std.proofs.Common.{◌≡◌, ℕ, ◌<◌, decimal, sym, ap, ◌∙◌, arith}
+use Rattle.std.proofs.Common.{◌<◌, decimal, arith}
 use Rattle.sheet.specs.Writes.{Wrote}
 use Rattle.sheet.proofs.Writing.{number_long, number_short, number_room}
 use Rattle.sheet.proofs.writer.+put_number.Goals as goal

@@ -1,4 +1,4 @@
-use Rattle.std.proofs.Common.{◌≡◌, map, length, vec_items, vec_len, sym, refl, ap, ◌∙◌, arith}
+use Rattle.std.proofs.Common.{◌≡◌, map, length, vec_items, sym, ap, ◌∙◌}
 use Rattle.sheet.specs.declared.keys.Key.TheVariants.{Slaves}
 use lib.ListN.{length-map}
 use Rattle.std.specs.List.{flat_map}
