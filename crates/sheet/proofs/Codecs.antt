@@ -1,5 +1,5 @@
 -- What is written is read back, and what is read is written back: of a line, and of each way to join.
-use Rattle.std.proofs.Common.{◌≡◌, ℕ, zero, suc, ◌+◌, ◌-◌, ◌*◌, ◌<◌, ◌≤◌, Bool, true, false, cond, not, ◌&&◌, eqb, ltb, ◌⊎◌, List, [], ◌∷◌, ◌++◌, length, Some, None, Ok, Err, decimal, Option, Result, sym, refl, ap, ◌∙◌, subst, inl, inr, ⊎_elim, append_assoc, append-nil, arith}
+use Rattle.std.proofs.Common.{◌≡◌, ℕ, zero, suc, ◌+◌, ◌<◌, Bool, true, cond, not, ◌&&◌, eqb, ltb, List, [], ◌∷◌, ◌++◌, length, Some, None, Ok, Err, decimal, Option, Result, sym, refl, ap, ◌∙◌, subst, ⊎_elim, append_assoc, arith}
 use Rattle.std.specs.Option.{option_map, ok_or}
 use Rattle.std.specs.Char.{is_ascii_digit}
 use Rattle.std.specs.Str.{all_ascii_digits, bytes_eq}
@@ -15,7 +15,7 @@ use Rattle.sheet.specs.declared.keys.Key.TheVariants.{Own, Wait, Boottime, Inhib
 use Rattle.sheet.specs.Decimal.{number_of}
 use Rattle.sheet.specs.Keys.{name_of}
 use Rattle.sheet.specs.Lines.{cut_at, bind, raised, line_of, line_text}
-use Rattle.sheet.specs.Codec.{Codec, Reading, Test, passes, judged, read_field, field, both, seen, write_all, good_all, read_all, many, counted}
+use Rattle.sheet.specs.Codec.{Codec, Test, passes, judged, field, both, seen, write_all, good_all, read_all, many, counted}
 use Rattle.sheet.proofs.Numbers.{own, reads_back, writes_back, digit_range}
 
 pub bind_ok : {A B E : Type 0} (r : Result A E) (f : A → Result B E) (b : B) → bind r f ≡ Ok b → (a : A) × (r ≡ Ok a) × (f a ≡ Ok b)

@@ -1,5 +1,5 @@
 -- What a reading promises in the subject's words, from its value.
-use Rattle.std.proofs.Common.{◌≡◌, ℕ, true, false, List, Ok, Err, Result, sym, refl, ap, ◌∙◌, subst, arith}
+use Rattle.std.proofs.Common.{◌≡◌, ℕ, List, Ok, Err, Result, sym, refl, ap, ◌∙◌, subst, arith}
 use Rattle.sheet.specs.declared.faults.Fault.{Fault}
 use Rattle.sheet.specs.Format.{SheetLines, text, reading}
 use Rattle.sheet.specs.Rules.{Keeps, Exact}

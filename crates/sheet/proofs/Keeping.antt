@@ -1,13 +1,13 @@
 -- The rules of a sheet, from the test that the format makes and back.
-use Rattle.std.proofs.Common.{◌≡◌, ℕ, zero, suc, ◌+◌, ◌-◌, ◌^◌, ◌<◌, ◌≤◌, Bool, true, false, cond, ◌&&◌, ◌||◌, eqb, ltb, leb, List, [], ◌∷◌, length, Some, None, Ok, sym, refl, ap, ◌∙◌, ⊎_elim, arith}
+use Rattle.std.proofs.Common.{◌≡◌, ℕ, zero, suc, ◌+◌, ◌-◌, ◌^◌, ◌<◌, ◌≤◌, Bool, true, false, cond, ◌&&◌, ◌||◌, eqb, ltb, leb, List, [], ◌∷◌, length, Some, None, sym, refl, ap, ◌∙◌, ⊎_elim, arith}
 use native.Mathlib.Nat.{one-le-pow, pow-le-pow_right}
 use Rattle.std.proofs.lemmas.Bool.{and_parts, and_from, or_parts, leb-true, leb-false, le-leb, lt-leb, lt-ltb, le-ltb, ltb-false, eqb-false, ne_eqb, cases_Bool, cond-true, cond-false}
 use Rattle.sheet.specs.declared.faults.Fault.{Fault}
 use Rattle.sheet.specs.declared.faults.Fault.TheVariants.{Range, Order, Silent, TooManySets}
 use Rattle.sheet.specs.declared.keys.Key.{Key}
 use Rattle.sheet.specs.declared.keys.Key.TheVariants.{Own, Wait, Boottime, Inhibit, Startall, Resetall, Stopall, Slaves, Node, Mandatory, Keep, Kind, Vendor, Product, Revision, Serial, Hb, Sets, Index, Sub, Size, Value}
-use Rattle.sheet.specs.Codec.{Codec, passes, good_all}
-use Rattle.sheet.specs.Format.{SetLines, SlaveLines, SheetLines, under, ranged, set_c, flag, word, node_c, hb_c, sets_c, slave_c, after, header_c, count_c, of_sheet, good, text, reading}
+use Rattle.sheet.specs.Codec.{passes, good_all}
+use Rattle.sheet.specs.Format.{SetLines, SlaveLines, SheetLines, under, ranged, set_c, flag, word, node_c, hb_c, sets_c, slave_c, after, header_c, count_c, of_sheet, good}
 use Rattle.sheet.specs.Rules.{SetKeeps, SetsKeep, SlaveKeeps, SlavesKeep, total, Keeps, Lasting}
 use Rattle.sheet.proofs.RoundTrip.{within_is, reads_text}
 

@@ -1,11 +1,10 @@
 -- What a line is read as, from its token.
-use Rattle.std.proofs.Common.{◌≡◌, ℕ, ◌+◌, ◌<◌, ◌≤◌, Bool, true, false, cond, not, List, [], ◌∷◌, ◌++◌, length, drop, Some, None, Ok, Err, Decides, Option, Result, sym, refl, ap, ◌∙◌, subst, ⊎_elim}
+use Rattle.std.proofs.Common.{◌≡◌, ℕ, ◌+◌, Bool, true, false, not, List, ◌∷◌, ◌++◌, length, drop, Some, Ok, Err, Result, sym, ap, ◌∙◌, subst, ⊎_elim}
 use Rattle.std.specs.Option.{ok_or}
 use Rattle.std.specs.Str.{bytes_eq}
-use Rattle.std.proofs.lemmas.Slice.Eq.{bytes_eq-Decides, slice_eq-Decides}
-use Rattle.std.specs.Cmp.Lexicographic.{Matches}
+use Rattle.std.proofs.lemmas.Slice.Eq.{bytes_eq-Decides}
 use Rattle.std.proofs.lemmas.Bool.{cond-true, cond-false, cases_Bool, not-true, not-false}
-use Rattle.std.proofs.lemmas.Bool.Decides.{not_from_Decides, Decides-eqb}
+use Rattle.std.proofs.lemmas.Bool.Decides.{not_from_Decides}
 use Rattle.sheet.specs.Reads.{Takes}
 use Rattle.sheet.specs.declared.faults.DigitsFault.{DigitsFault}
 use Rattle.sheet.specs.declared.faults.LineFault.{LineFault}
@@ -36,8 +35,8 @@ pub takes_err : (l : ℕ) (q : Result (ℕ × List ℕ) LineFault) (r : Result �
 takes_err l q r e m t h k = subst (λ x. Takes l q x m t) (sym h) k
 
 -- what `!=` on slices answers
-pub differs : (xs ys : List ℕ) (r x : Bool) → Matches (λ (a b : ℕ) (t : Bool). Decides t (a ≡ b)) xs ys x → r ≡ not x → r ≡ true → xs ≡ ys → ⊥
-differs xs ys r x m e h s = not_from_Decides x (slice_eq-Decides Decides-eqb xs ys x m) (not-true x (sym e ∙ h)) s
+pub differs : (xs ys : List ℕ) (r : Bool) → r ≡ not (bytes_eq xs ys) → r ≡ true → xs ≡ ys → ⊥
+differs xs ys r e h s = not_from_Decides (bytes_eq xs ys) (bytes_eq-Decides xs ys) (not-true (bytes_eq xs ys) (sym e ∙ h)) s
 
-pub same : (xs ys : List ℕ) (r x : Bool) → Matches (λ (a b : ℕ) (t : Bool). Decides t (a ≡ b)) xs ys x → r ≡ not x → r ≡ false → xs ≡ ys
-same xs ys r x m e h = (slice_eq-Decides Decides-eqb xs ys x m).0 (not-false x (sym e ∙ h))
+pub same : (xs ys : List ℕ) (r : Bool) → r ≡ not (bytes_eq xs ys) → r ≡ false → xs ≡ ys
+same xs ys r e h = (bytes_eq-Decides xs ys).0 (not-false (bytes_eq xs ys) (sym e ∙ h))

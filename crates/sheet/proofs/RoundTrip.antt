@@ -1,13 +1,12 @@
 -- The two laws of the sheet's text.
-use Rattle.std.proofs.Common.{◌≡◌, ℕ, ◌+◌, ◌<◌, ◌≤◌, Bool, true, false, cond, ◌&&◌, eqb, ltb, leb, List, [], ◌∷◌, ◌++◌, length, Ok, Err, Result, sym, refl, ap, ◌∙◌, subst, ⊎_elim, append-nil, arith}
+use Rattle.std.proofs.Common.{◌≡◌, ℕ, ◌≤◌, Bool, true, false, cond, ◌&&◌, eqb, ltb, leb, List, [], ◌∷◌, ◌++◌, length, Ok, sym, refl, ap, ◌∙◌, ⊎_elim, append-nil, arith}
 use Rattle.std.proofs.lemmas.Bool.{and_parts, leb-true, cases_Bool, cond-false}
 use Rattle.std.proofs.lemmas.Bool.Decides.{nat_tests}
-use Rattle.sheet.specs.declared.faults.Fault.{Fault}
 use Rattle.sheet.specs.declared.keys.Key.{Key}
 use Rattle.sheet.specs.declared.keys.Key.TheVariants.{Slaves}
 use Rattle.sheet.specs.Lines.{bind}
-use Rattle.sheet.specs.Codec.{Codec, Reading, Test, passes, field, read_field, both, seen, many, counted, read_all, good_all}
-use Rattle.sheet.specs.Format.{SetLines, SlaveLines, HeaderLines, SheetLines, within, ranged, set_c, flag, Before, slave_c, after, header_c, count_c, slaves_c, to_sheet, of_sheet, sheet_c, text, good, ended, reading}
+use Rattle.sheet.specs.Codec.{passes, read_field, both, many, read_all}
+use Rattle.sheet.specs.Format.{SlaveLines, HeaderLines, SheetLines, within, ranged, set_c, flag, Before, slave_c, after, header_c, count_c, slaves_c, to_sheet, of_sheet, sheet_c, text, good, ended, reading}
 use Rattle.sheet.proofs.Codecs.{Lawful, ok_is, field_laws, both_laws, seen_laws, many_laws, many_length, counted_laws, both_ok, seen_ok, bind_ok}
 
 set_laws : Lawful set_c

@@ -1,8 +1,8 @@
 -- What the parts of a line are, from where its two marks stand.
-use Rattle.std.proofs.Common.{◌≡◌, ℕ, ◌+◌, ◌-◌, ◌<◌, ◌≤◌, List, [], ◌∷◌, ◌++◌, length, take, drop, Some, None, sym, refl, ap, ◌∙◌, subst, arith, length-drop}
+use Rattle.std.proofs.Common.{◌≡◌, ℕ, ◌+◌, ◌-◌, ◌<◌, ◌≤◌, List, ◌∷◌, ◌++◌, length, take, drop, Some, None, sym, refl, ap, ◌∙◌, arith, length-drop}
 use Rattle.std.proofs.lemmas.List.{take-take, drop-take, drop-drop, length-take-le}
 use Rattle.sheet.specs.Lines.{cut_at}
-use Rattle.sheet.specs.Tokens.{part, PairAt, BareAt, OpenAt}
+use Rattle.sheet.specs.Tokens.{PairAt, BareAt, OpenAt}
 use Rattle.sheet.proofs.Codecs.{cut_is}
 
 pub open_at : (t : List ℕ) (at : ℕ) (rest : List ℕ) → rest ≡ drop at t → cut_at 10 rest ≡ None → OpenAt t at rest at

@@ -1,6 +1,5 @@
 -- The refusal number, the line and the layer of a fault, by variant.
 use Rattle.std.specs.Prelude.{ℕ}
-use Rattle.sheet.specs.declared.faults.LineFault.{LineFault}
 use Rattle.sheet.specs.declared.faults.LineFault.TheVariants.{Digits, Shape}
 use Rattle.sheet.specs.declared.faults.Fault.{Fault}
 use Rattle.sheet.specs.declared.faults.Fault.TheVariants.{Line, Range, Order, Silent, TooManySets, After}

@@ -1,4 +1,4 @@
-use Rattle.std.proofs.Common.{◌≡◌, ℕ, ◌||◌, eqb, leb, Ok, Err, sym, refl, ap, ◌∙◌, rules}
+use Rattle.std.proofs.Common.{ℕ, ◌||◌, eqb, leb, Err, ap, ◌∙◌, rules}
 use Rattle.std.proofs.lemmas.Result.{err_from_is_err_and}
 use Rattle.sheet.specs.declared.faults.Fault.TheVariants.{Order}
 use Rattle.sheet.specs.declared.keys.Key.TheVariants.{Node}
@@ -7,10 +7,10 @@ use Rattle.sheet.proofs.Judging.{under_stops}
 use Rattle.sheet.proofs.Loops.{reads_err}
 use Rattle.sheet.proofs.reader.read_node.Goals as goal
 
-pub returns-in-err-n : goal.returns-in-err-n
-returns-in-err-n c =
-    let p = err_from_is_err_and c.from-residual.result c.from-residual.ensures.1 in
+pub returns-in_err-n : goal.returns-in_err-n
+returns-in_err-n c =
+    let p = err_from_is_err_and c.from_residual.result c.from_residual.ensures.1 in
     record {
-      reads = reads_err (λ (n : ℕ). n) _ _ _ _ _ (p.1 ∙ ap (λ e. Err e) p.2) (under_stops Node 1 127 (λ n. eqb n c.args.own || leb n c.args.last) (λ l. Order l) (due c.args.cur.now) _ (left c.args.cur.now) c.in-err-n.ensures.reads);
+      reads = reads_err (λ (n : ℕ). n) _ _ _ _ _ (p.1 ∙ ap (λ e. Err e) p.2) (under_stops Node 1 127 (λ n. eqb n c.args.own || leb n c.args.last) (λ l. Order l) (due c.args.cur.now) _ (left c.args.cur.now) c.in_err-n.ensures.reads);
       bound = search rules;
     }

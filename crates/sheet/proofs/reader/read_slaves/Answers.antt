@@ -1,4 +1,4 @@
-use Rattle.std.proofs.Common.{◌≡◌, ◌+◌, ◌-◌, ◌≤◌, map, length, take, Ok, Err, vec_items, vec_len, sym, refl, ap, ◌∙◌, arith, rules}
+use Rattle.std.proofs.Common.{◌≡◌, ◌+◌, ◌-◌, ◌≤◌, map, length, take, Err, vec_items, sym, refl, ap, ◌∙◌, arith, rules}
 use lib.ListN.{length-map}
 use Rattle.std.proofs.lemmas.List.{map_push, length-take-le}
 use Rattle.std.proofs.lemmas.Result.{err_from_is_err_and}
@@ -8,15 +8,15 @@ use Rattle.sheet.specs.Views.{set_of, sets_of, slave_of, slaves_of}
 use Rattle.sheet.proofs.Loops.{Rest, start, more, stop, reads_err}
 use Rattle.sheet.proofs.reader.read_slaves.Goals as goal
 
-pub returns-in-err-slave : goal.returns-in-err-slave
-returns-in-err-slave c =
-    let p = err_from_is_err_and c.from-residual.result c.from-residual.ensures.1 in
+pub returns-in_err-slave : goal.returns-in_err-slave
+returns-in_err-slave c =
+    let p = err_from_is_err_and c.from_residual.result c.from_residual.ensures.1 in
     record {
       room = c.loop-i.invariant.2;
       len = search rules;
       reads =
-          reads_err (λ (_ : Unit {0}). slaves_of c.loop-i.slaves) _ _ c.in-err-slave.field-0.0 _ _ (p.1 ∙ ap (λ e. Err e) p.2)
-          (c.loop-i.invariant.3 ∙ stop slave_c after (c.args.own, (c.loop-i.last, c.loop-i.sofar)) c.args.n c.loop-i.i _ _ _ _ c.loop-i-test.true c.in-err-slave.ensures.reads);
+          reads_err (λ (_ : Unit {0}). slaves_of c.loop-i.slaves) _ _ c.in_err-slave.field-0.0 _ _ (p.1 ∙ ap (λ e. Err e) p.2)
+          (c.loop-i.invariant.3 ∙ stop slave_c after (c.args.own, (c.loop-i.last, c.loop-i.sofar)) c.args.n c.loop-i.i _ _ _ _ c.loop-i-test.true c.in_err-slave.ensures.reads);
     }
 
 pub loop-i-init : goal.loop-i-init
@@ -30,14 +30,14 @@ loop-i-init c =
 
 pub loop-i-preserved : goal.loop-i-preserved
 loop-i-preserved c =
-    let slave = c.in-ok-slave.slave in
-    let seen = ap (map slave_of) c.push-reserved.ensures.items ∙ map_push slave_of (vec_items c.loop-i.slaves) slave in
+    let slave = c.in_ok-slave.slave in
+    let seen = ap (map slave_of) c.push_reserved.ensures.items ∙ map_push slave_of (vec_items c.loop-i.slaves) slave in
     let few : slave.sets.len ≤ length slave.sets.items = search rules in
     let long : length (sets_of slave.sets) ≡ slave.sets.len = length-map (take slave.sets.len slave.sets.items) set_of ∙ length-take-le slave.sets.len slave.sets.items few in (
-      c.in-ok-slave.ensures.bound,
+      c.in_ok-slave.ensures.bound,
       search rules,
       search rules,
       c.loop-i.invariant.3
-          ∙ more slave_c after (c.args.own, (c.loop-i.last, c.loop-i.sofar)) c.args.n c.loop-i.i _ _ _ (slave_of slave) _ _ c.loop-i-test.true c.in-ok-slave.ensures.reads
-          ∙ (λ i. Rest slave_c after (c.args.own, (slave.node, c.loop-i.sofar + long i)) (c.args.n - (c.loop-i.i + 1)) (due c.read-slave.new.cur) (left c.read-slave.new.cur) (sym seen i)),
+          ∙ more slave_c after (c.args.own, (c.loop-i.last, c.loop-i.sofar)) c.args.n c.loop-i.i _ _ _ (slave_of slave) _ _ c.loop-i-test.true c.in_ok-slave.ensures.reads
+          ∙ (λ i. Rest slave_c after (c.args.own, (slave.node, c.loop-i.sofar + long i)) (c.args.n - (c.loop-i.i + 1)) (due c.read_slave.new.cur) (left c.read_slave.new.cur) (sym seen i)),
     )

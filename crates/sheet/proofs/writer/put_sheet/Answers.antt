@@ -1,4 +1,4 @@
-use Rattle.std.proofs.Common.{◌≡◌, map, length, vec_items, vec_len, sym, refl, ap, ◌∙◌, arith}
+use Rattle.std.proofs.Common.{◌≡◌, map, length, vec_items, sym, ap, ◌∙◌}
 use Rattle.sheet.specs.declared.keys.Key.TheVariants.{Slaves}
 use lib.ListN.{length-map}
 use Rattle.std.specs.List.{flat_map}
@@ -12,5 +12,5 @@ returns c =
     let slaves = c.args.sheet.now.slaves in
     let long : c.len.result ≡ length (slaves_of slaves) = c.len.ensures ∙ slaves.ok.0 ∙ sym (length-map (vec_items slaves) slave_of) in
     then
-    (then c.put-line-a.ensures.wrote (then c.put-line-b.ensures.wrote (then c.put-line-c.ensures.wrote (then c.put-line-d.ensures.wrote (then c.put-bit-e.ensures.wrote (then c.put-bit-f.ensures.wrote c.put-bit-g.ensures.wrote))))))
-    (counted_then (Slaves) _ _ _ _ _ _ _ _ _ _ long (ap (λ l. flat_map slave_text (map slave_of l)) c.deref.ensures.value ∙ sym (slaves_text _ (slaves_of slaves))) c.put-line-h.ensures.wrote c.put-slaves.ensures)
+    (then c.put_line-a.ensures.wrote (then c.put_line-b.ensures.wrote (then c.put_line-c.ensures.wrote (then c.put_line-d.ensures.wrote (then c.put_bit-e.ensures.wrote (then c.put_bit-f.ensures.wrote c.put_bit-g.ensures.wrote))))))
+    (counted_then (Slaves) _ _ _ _ _ _ _ _ _ _ long (ap (λ l. flat_map slave_text (map slave_of l)) c.deref.ensures.value ∙ sym (slaves_text _ (slaves_of slaves))) c.put_line-h.ensures.wrote c.put_slaves.ensures)

@@ -1,4 +1,4 @@
-use Rattle.std.proofs.Common.{length, drop, ap, arith, length-drop}
+use Rattle.std.proofs.Common.{length, ap, arith, length-drop}
 use Rattle.std.proofs.lemmas.List.{drop_all}
 use Rattle.std.proofs.lemmas.Bool.{eq-eqb, eqb-true}
 use Rattle.sheet.proofs.cursor.Cursor.at_end.Goals as goal
