@@ -1,6 +1,6 @@
 -- While the master runs, each listed slave's entry reads as the record says. Once it has a stop due or is halted, one mandatory slave
 -- has neither passed nor a try, in both.
-use Rattle.std.proofs.Common.{◌≡◌, ℕ, ◌-◌, ◌%◌, ◌<◌, ◌≤◌, Bool, true, false, cond, eqb, ltb, ◌⊎◌, List, [], ◌∷◌, ◌++◌, length, get_or, Some, None, Option, sym, refl, ap, ◌∙◌, subst, inl, inr, ⊎_elim, arith}
+use Rattle.std.proofs.Common.{◌≡◌, ℕ, ◌-◌, ◌%◌, ◌≤◌, Bool, true, false, cond, eqb, ltb, ◌⊎◌, List, [], ◌∷◌, ◌++◌, length, get_or, Some, None, Option, sym, refl, ap, ◌∙◌, subst, inl, inr, ⊎_elim, arith}
 use Rattle.std.proofs.lemmas.List.Sums.{fold_push}
 use Rattle.std.proofs.lemmas.Bool.{cases_eq, cases_Bool, cond-true, cond-false, eq-eqb, ne_eqb}
 use Rattle.frames.specs.Contents.{Content}
@@ -8,12 +8,12 @@ use Rattle.frames.specs.declared.nmt.Command.TheVariants.{Stop}
 use Rattle.frames.specs.declared.sdo.Reply.{Reply}
 use Rattle.sheet.specs.Format.{SlaveLines, SheetLines}
 use Rattle.sheet.specs.Rules.{SlavesKeep}
-use Rattle.master.specs.Network.{State, is_running, slave_by, brings, brought_by, step_in, with_entries, with_phase, with_sweep, tries_anew, input_of, input_at, taken_by, heard_at, heard_by}
+use Rattle.master.specs.Network.{State, is_running, slave_by, brings, brought_by, step_in, with_entries, with_phase, with_sweep, tries_anew, input_of, taken_by, heard_at, heard_by}
 use Rattle.frames.specs.Nmt.{nmt_in, reaches}
 use Rattle.frames.specs.Signs.{sign_in}
 use Rattle.frames.specs.declared.error_control.Sign.{Sign}
 use Rattle.frames.specs.declared.error_control.Sign.TheVariants as sign
-use Rattle.master.specs.Record.{Try, none, Reading, Event, heard, tick, put, read, reading, unread, signed, heard_from, put_to, commanded}
+use Rattle.master.specs.Record.{none, Reading, Event, heard, tick, put, read, reading, unread, signed, heard_from, put_to, commanded}
 use Rattle.master.specs.Checks.{verdict_of}
 use Rattle.master.specs.Step.{stepped, on_reply, on_tick, decided}
 use Rattle.master.specs.Table.{fresh, entry_of, changed}
@@ -38,7 +38,7 @@ use Rattle.master.proofs.Choosing.{choose}
 use Rattle.master.proofs.Hearing.{inputted, hearing, hearing_seen, far_seen}
 use Rattle.master.proofs.Seeing.{seen, try_of}
 use Rattle.master.specs.Record.{Every}
-use Rattle.master.proofs.Spread.{every_map, every_zip, Ranged, ranged, found, has, entry_same, entry_other, changed_long, changed_by, changed_by_long, spread}
+use Rattle.master.proofs.Spread.{every_zip, Ranged, ranged, has, entry_same, entry_other, changed_long, changed_by, spread}
 
 -- a listed slave of which something holds
 abbrev pub SomeOne : (SlaveLines → Type 0) → List SlaveLines → Type 0

@@ -8,12 +8,11 @@ use Rattle.frames.specs.Contents.{Content, content_of}
 use Rattle.frames.specs.Lists.{accepts, added}
 use Rattle.frames.specs.declared.frame.Frame.{Frame}
 use Rattle.ports.specs.Meaning.{given, kept, paused, is_command, held}
-use Rattle.sheet.specs.Format.{SheetLines}
 use Rattle.sheet.specs.Rules.{Keeps}
 use Rattle.master.specs.Masters.{is_frame, content_by, use_of, hearing, hearing_steps, worked_by}
 use Rattle.master.specs.Network.{State, heard_by, ticked, is_halted, planned, plan_content, carried_out, going}
 use Rattle.master.specs.FromPort.{LeadsFrom, StandsFrom, Carries}
-use Rattle.master.specs.Session.{PortState, Machine, with_net, Call, hear, pass, work, take, placed, idle, refused, Step, hears, takes, leaves, placing, works_on, after, step_of}
+use Rattle.master.specs.Session.{PortState, Machine, with_net, Call, hear, pass, work, take, placed, idle, refused, hears, takes, leaves, placing, works_on, after, step_of}
 use Rattle.master.specs.Session.{Worked as Outcome}
 use Rattle.master.specs.declared.calls.Refusal.{Refusal}
 use Rattle.master.specs.declared.calls.Refusal.TheVariants as refusal

@@ -1,20 +1,20 @@
 -- The master says Go exactly when the number of listed slaves equals the number of them that the record clears.
-use Rattle.std.proofs.Common.{◌≡◌, ℕ, ◌+◌, ◌<◌, ◌≤◌, Bool, true, false, cond, eqb, ◌⊎◌, List, [], ◌∷◌, length, count_by, sym, refl, ap, ◌∙◌, subst, inl, inr, ⊎_elim, arith}
+use Rattle.std.proofs.Common.{◌≡◌, ℕ, ◌+◌, ◌<◌, ◌≤◌, Bool, true, false, cond, eqb, List, [], ◌∷◌, length, count_by, sym, refl, ap, ◌∙◌, inl, inr, arith}
 use Rattle.std.proofs.lemmas.List.Sums.{count_by-le-length, sum_by-cons}
-use Rattle.std.proofs.lemmas.Bool.{ne_eqb, eqb-true}
+use Rattle.std.proofs.lemmas.Bool.{ne_eqb}
 use Rattle.sheet.specs.Format.{SlaveLines, SheetLines}
 use Rattle.sheet.specs.Rules.{SlavesKeep}
 use Rattle.master.specs.Network.{State, going, holds}
-use Rattle.master.specs.Record.{Event, reading, clears, has_passed, all_cleared, none}
+use Rattle.master.specs.Record.{Event, reading, clears, has_passed, all_cleared}
 use Rattle.master.specs.FromPort.{LeadsFrom}
 use Rattle.master.specs.Session.{PortState, Machine, Step, record_of}
-use Rattle.master.specs.Step.{is_passed, is_cleared}
+use Rattle.master.specs.Step.{is_cleared}
 use Rattle.master.specs.Table.{entry_of}
 use Rattle.master.specs.declared.types.Entry.{Entry}
 use Rattle.master.specs.declared.types.Quality.TheVariants as quality
-use Rattle.master.proofs.Agreement.{SomeOne, Same, Idle, Agrees, live, stopping, halted, state}
+use Rattle.master.proofs.Agreement.{SomeOne, Same, Idle, Agrees, live, stopping, halted}
 use Rattle.master.proofs.Leading.{agrees}
-use Rattle.master.proofs.Seeing.{seen, try_of, seen_cleared, seen_passed}
+use Rattle.master.proofs.Seeing.{seen_cleared, seen_passed}
 use Rattle.master.specs.Record.{Every}
 use Rattle.master.proofs.Spread.{every_map}
 

@@ -1,11 +1,11 @@
 -- A tick of all listed slaves, and that the record's tick does the same.
-use Rattle.std.proofs.Common.{◌≡◌, ℕ, ◌+◌, ◌<◌, ◌≤◌, min, Bool, true, false, cond, ◌⊎◌, List, [], ◌∷◌, ◌++◌, length, sym, refl, ap, ◌∙◌, subst, inl, inr, ⊎_elim, arith}
+use Rattle.std.proofs.Common.{◌≡◌, ℕ, ◌+◌, ◌<◌, ◌≤◌, min, Bool, true, false, ◌⊎◌, List, [], ◌∷◌, ◌++◌, length, sym, refl, ap, ◌∙◌, subst, inl, inr, ⊎_elim, arith}
 use Rattle.std.proofs.lemmas.Bool.{cases_Bool, cond-true, cond-false}
 use Rattle.sheet.specs.Format.{SlaveLines, SheetLines}
 use Rattle.sheet.specs.Rules.{SlavesKeep}
-use Rattle.master.specs.Network.{State, is_running, step_in, tick_from, ticked, with_entries, with_clock}
-use Rattle.master.specs.Record.{Event, tick, none, read, reading, Reading}
-use Rattle.master.specs.Step.{stepped, on_tick}
+use Rattle.master.specs.Network.{State, is_running, step_in, tick_from, ticked, with_entries}
+use Rattle.master.specs.Record.{Event, tick, none, read, Reading}
+use Rattle.master.specs.Step.{stepped}
 use Rattle.master.specs.Table.{entry_of, changed}
 use Rattle.master.specs.declared.types.Entry.{Entry}
 use Rattle.master.specs.declared.types.Input.TheVariants as input
@@ -15,7 +15,7 @@ use Rattle.master.specs.declared.types.Sweep.{Sweep}
 use Rattle.master.proofs.Agreement.{SomeOne, Same, Idle, Agrees, state, is_live, is_dead, Bad, left, ends, pushed}
 use Rattle.master.proofs.Seeing.{seen, try_of, seen_tick}
 use Rattle.master.specs.Record.{Every}
-use Rattle.master.proofs.Spread.{every_map, every_zip, Ranged, ranged, entry_same, entry_other, changed_long}
+use Rattle.master.proofs.Spread.{every_zip, Ranged, ranged, entry_same, entry_other, changed_long}
 
 -- the entry of a slave after its tick
 abbrev Ticked : List Entry → List Entry → SlaveLines → Type 0

@@ -1,5 +1,5 @@
 -- A work that finds a free place while Go: it puts a start that reaches the slave, or comes nearer to it.
-use Rattle.std.proofs.Common.{◌≡◌, ℕ, ◌+◌, ◌<◌, ◌≤◌, Bool, true, false, cond, not, ◌&&◌, eqb, ◌⊎◌, List, [], ◌∷◌, ◌++◌, length, Some, None, count_by, Option, sym, refl, ap, ◌∙◌, subst, inl, inr, ⊎_elim, arith}
+use Rattle.std.proofs.Common.{◌≡◌, ℕ, ◌<◌, ◌≤◌, Bool, true, false, ◌⊎◌, List, [], ◌∷◌, Some, count_by, sym, refl, ap, ◌∙◌, subst, inl, inr, ⊎_elim, arith}
 use Rattle.std.specs.Option.{option_map}
 use Rattle.std.proofs.lemmas.Bool.{cases_Bool, cases_eq, cond-true, cond-false, eq-eqb, ne_eqb}
 use Rattle.frames.specs.Contents.{Content}
@@ -10,7 +10,7 @@ use Rattle.frames.specs.declared.nmt.NmtMessage.{NmtMessage}
 use Rattle.sheet.specs.Format.{SlaveLines, SheetLines}
 use Rattle.sheet.specs.Rules.{SlavesKeep}
 use Rattle.master.specs.Checks.{request_of}
-use Rattle.master.specs.Network.{State, slave_by, going, next_due, starts_all, serve_plan, duty_plan_from, planned, command_of, nmt_to, duty_content, plan_content, carried_out}
+use Rattle.master.specs.Network.{State, slave_by, going, starts_all, serve_plan, duty_plan_from, planned, command_of, nmt_to, plan_content, carried_out}
 use Rattle.master.specs.Record.{Every, put}
 use Rattle.master.specs.Step.{duty_of}
 use Rattle.master.specs.Table.{entry_of}
@@ -21,7 +21,7 @@ use Rattle.master.specs.declared.types.Phase.TheVariants.{Running}
 use Rattle.master.specs.declared.types.Plan.{Plan}
 use Rattle.master.specs.declared.types.Plan.TheVariants as plan
 use Rattle.master.specs.declared.types.Sweep.TheVariants.{Over}
-use Rattle.master.proofs.Agreement.{SomeOne, some_found, state}
+use Rattle.master.proofs.Agreement.{some_found, state}
 use Rattle.master.proofs.Origins.{Owed, due_next}
 use Rattle.master.proofs.Owing.{Other}
 use Rattle.master.proofs.Permitting.{is_message, reset_no_start, not_command}

@@ -1,5 +1,5 @@
 -- A frame heard, on one entry: it reads as the record does.
-use Rattle.std.proofs.Common.{◌≡◌, ℕ, ◌+◌, ◌%◌, ◌≤◌, Bool, true, false, cond, ◌&&◌, eqb, List, [], ◌∷◌, Some, None, Option, sym, refl, ap, ◌∙◌, subst, arith}
+use Rattle.std.proofs.Common.{◌≡◌, ℕ, ◌+◌, ◌%◌, ◌≤◌, Bool, eqb, Some, None, Option, refl, ap, ◌∙◌, arith}
 use Rattle.std.specs.Option.{option_map}
 use Rattle.std.proofs.lemmas.Bool.{cond-false, ne_eqb, and_left}
 use Rattle.frames.specs.Contents.{Content}
@@ -9,10 +9,10 @@ use Rattle.frames.specs.declared.error_control.Sign.{Sign}
 use Rattle.frames.specs.declared.sdo.Reply.{Reply}
 use Rattle.frames.specs.declared.sdo.Request.{Request}
 use Rattle.sheet.specs.Format.{SlaveLines, SheetLines}
-use Rattle.master.specs.Checks.{request_of, verdict_of}
+use Rattle.master.specs.Checks.{request_of}
 use Rattle.master.specs.Network.{answer_to, sign_or, input_of}
-use Rattle.master.specs.Record.{Try, Reading, Event, heard, answered, heard_from, replied_by, read, none, to_ask, asked, at_state, at_control, passed}
-use Rattle.master.specs.Step.{stepped, on_sign}
+use Rattle.master.specs.Record.{Try, Reading, heard, answered, heard_from, replied_by, read, none, to_ask, asked, at_state, at_control, passed}
+use Rattle.master.specs.Step.{stepped}
 use Rattle.master.specs.declared.types.Check.{Check}
 use Rattle.master.specs.declared.types.Check.TheVariants.{Kind, Vendor, Product, Revision, Serial, Set}
 use Rattle.master.specs.declared.types.Entry.{Entry}

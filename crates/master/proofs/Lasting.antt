@@ -1,22 +1,20 @@
 -- What every step and change of an entry keeps holds of every listed slave after every row of calls.
-use Rattle.std.proofs.Common.{◌≡◌, ℕ, ◌+◌, ◌-◌, ◌%◌, ◌<◌, ◌≤◌, min, Bool, true, false, cond, eqb, ◌⊎◌, List, [], ◌∷◌, ◌++◌, length, replicate, Some, None, Option, sym, refl, ap, ◌∙◌, subst, inl, inr, ⊎_elim, arith}
+use Rattle.std.proofs.Common.{◌≡◌, ℕ, ◌+◌, ◌-◌, ◌%◌, min, Bool, true, false, cond, eqb, List, [], ◌∷◌, length, replicate, Some, None, Option, sym, refl, ap, ◌∙◌, subst}
 use lib.ListN.{length-replicate}
-use Rattle.std.proofs.lemmas.Bool.{cases_Bool}
 use Rattle.frames.specs.Contents.{Content}
 use Rattle.frames.specs.Lists.{accepts}
 use Rattle.sheet.specs.Format.{SlaveLines, SheetLines}
 use Rattle.sheet.specs.Rules.{SlavesKeep}
-use Rattle.master.specs.Network.{State, is_running, is_halted, slave_by, fresh_state, brings, brought_by, tries_anew, step_in, tick_from, ticked, with_entries, with_clock, with_phase, with_sweep, input_at, taken_by, heard_at, heard_by, applied_to, change_for, is_start, carried_out, planned, plan_content}
+use Rattle.master.specs.Network.{State, is_running, is_halted, slave_by, fresh_state, brings, brought_by, tries_anew, step_in, tick_from, ticked, with_entries, with_clock, with_phase, with_sweep, input_at, taken_by, heard_at, heard_by, applied_to, change_for, carried_out, planned, plan_content}
 use Rattle.master.specs.FromPort.{LeadsFrom, fresh, then}
-use Rattle.master.specs.Session.{PortState, Machine, Call, hear, pass, work, take, Worked, placed, idle, refused, Step, placing, works_on, after, step_of}
+use Rattle.master.specs.Session.{PortState, Machine, Call, hear, pass, work, take, Worked, Step, placing, after}
 use Rattle.master.specs.Step.{stepped}
-use Rattle.master.specs.Table.{entry_of, changed, change_by, applied, applied_all}
+use Rattle.master.specs.Table.{entry_of, changed, change_by, applied_all}
 use Rattle.master.specs.Table.{fresh as fresh_entry}
 use Rattle.master.specs.declared.types.Brought.{Brought}
 use Rattle.master.specs.declared.types.Brought.TheVariants as brought
 use Rattle.master.specs.declared.types.Change.{Change}
 use Rattle.master.specs.declared.types.Change.TheVariants as change
-use Rattle.master.specs.declared.types.Duty.{Duty}
 use Rattle.master.specs.declared.types.Entry.{Entry}
 use Rattle.master.specs.declared.types.Input.{Input}
 use Rattle.master.specs.declared.types.Input.TheVariants as input

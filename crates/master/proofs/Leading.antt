@@ -1,5 +1,5 @@
 -- Entries and record agree after every row of calls, and so the master says Go exactly when the record clears all.
-use Rattle.std.proofs.Common.{◌≡◌, ℕ, ◌+◌, ◌-◌, ◌<◌, ◌≤◌, Bool, true, false, cond, eqb, ◌⊎◌, List, [], ◌∷◌, ◌++◌, length, get_or, replicate, Some, None, count_by, Option, sym, refl, ap, ◌∙◌, subst, inl, inr, ⊎_elim, append_assoc, append-nil, arith}
+use Rattle.std.proofs.Common.{◌≡◌, ℕ, ◌-◌, Bool, true, false, cond, List, [], ◌∷◌, ◌++◌, length, get_or, replicate, Some, None, Option, sym, refl, ap, ◌∙◌, subst, ⊎_elim, append_assoc, append-nil, arith}
 use lib.ListN.{length-replicate}
 use Rattle.std.proofs.lemmas.List.{get_or_past, get_or-replicate}
 use Rattle.std.proofs.lemmas.Bool.{cases_Bool, cases_lt, cond-true, cond-false}
@@ -8,31 +8,27 @@ use Rattle.frames.specs.Nmt.{nmt_in}
 use Rattle.frames.specs.declared.nmt.Command.TheVariants.{Stop}
 use Rattle.frames.specs.Lists.{accepts}
 use Rattle.sheet.specs.Format.{SlaveLines, SheetLines}
-use Rattle.sheet.specs.Rules.{SlavesKeep, Keeps}
-use Rattle.master.specs.Network.{State, fresh_state, heard_by, ticked, planned, plan_content, carried_out, nmt_to, going, counted, holds}
-use Rattle.master.specs.Record.{Event, heard, tick, put, Reading, reading, clears, has_passed, cleared, all_cleared, none, unread}
+use Rattle.sheet.specs.Rules.{SlavesKeep}
+use Rattle.master.specs.Network.{State, fresh_state, heard_by, ticked, planned, plan_content, carried_out, nmt_to}
+use Rattle.master.specs.Record.{Event, heard, tick, put, unread}
 use Rattle.master.specs.FromPort.{LeadsFrom, fresh, then}
-use Rattle.master.specs.Session.{PortState, Machine, Call, hear, pass, work, take, Worked, placed, idle, refused, Step, hears, passes, works, takes, placing, works_on, after, step_of, put_by, events, noted, record_of}
-use Rattle.master.specs.Step.{to, is_passed, is_cleared}
+use Rattle.master.specs.Session.{PortState, Machine, Call, hear, pass, work, take, Worked, Step, placing, works_on, after, step_of, put_by, events, noted, record_of}
+use Rattle.master.specs.Step.{to}
 use Rattle.master.specs.Table.{entry_of, change_by, applied_all}
 use Rattle.master.specs.Table.{fresh as fresh_entry}
 use Rattle.master.specs.declared.types.Change.TheVariants as change
 use Rattle.master.specs.declared.types.Entry.{Entry}
 use Rattle.master.specs.declared.types.Phase.TheVariants.{Running, StopDue, Halted}
-use Rattle.master.specs.declared.types.Plan.{Plan}
 use Rattle.master.specs.declared.types.Plan.TheVariants as plan
-use Rattle.master.specs.declared.types.Quality.TheVariants as quality
 use Rattle.master.specs.declared.types.Check.TheVariants.{Kind}
 use Rattle.master.specs.declared.types.ResetKind.TheVariants as reset
 use Rattle.master.specs.declared.types.Stage.TheVariants.{Ask}
-use Rattle.master.specs.declared.types.Sweep.{Sweep}
 use Rattle.master.specs.declared.types.Sweep.TheVariants.{Over, Begun}
-use Rattle.master.proofs.Agreement.{SomeOne, Same, Idle, Agrees, live, stopping, halted, state, live_heard, still_idle}
+use Rattle.master.proofs.Agreement.{Same, Agrees, live, stopping, halted, state, live_heard, still_idle}
 use Rattle.master.proofs.Clocking.{live_ticked}
 use Rattle.master.proofs.Origins.{origin}
-use Rattle.master.proofs.Seeing.{seen, try_of, seen_cleared, seen_passed}
-use Rattle.master.specs.Record.{Every}
-use Rattle.master.proofs.Spread.{every_map, every_zip, Ranged, ranged, applied_long, spread_all}
+use Rattle.master.proofs.Seeing.{seen}
+use Rattle.master.proofs.Spread.{every_map, applied_long, spread_all}
 use Rattle.master.proofs.Working.{live_put}
 
 -- one step more in the record

@@ -1,11 +1,11 @@
 -- The frames that left, followed by those that wait, are those that waited at first, followed by those that entered.
-use Rattle.std.proofs.Common.{◌≡◌, Bool, true, false, cond, ◌&&◌, ltb, List, [], ◌∷◌, ◌++◌, Some, None, Option, sym, refl, ap, ◌∙◌, subst, append_assoc, append-nil}
+use Rattle.std.proofs.Common.{◌≡◌, ◌&&◌, ltb, List, [], ◌∷◌, ◌++◌, Some, None, Option, sym, refl, ap, ◌∙◌, append_assoc, append-nil}
 use Rattle.frames.specs.Contents.{Content}
 use Rattle.frames.specs.Lists.{accepts}
 use Rattle.sheet.specs.Format.{SheetLines}
-use Rattle.master.specs.Network.{State, is_halted, planned, plan_content}
+use Rattle.master.specs.Network.{is_halted, planned, plan_content}
 use Rattle.master.specs.FromPort.{LeadsFrom, fresh, then}
-use Rattle.master.specs.Session.{PortState, Machine, Call, hear, pass, work, take, Worked, placed, idle, refused, Step, hears, passes, works, takes, is_command, leaves, placing, works_on, after, step_of, put_by, taken_of, entered_of, left, entered}
+use Rattle.master.specs.Session.{PortState, Machine, Call, hear, pass, work, take, Worked, Step, takes, is_command, leaves, placing, after, step_of, put_by, taken_of, entered_of, left, entered}
 use Rattle.master.proofs.Choosing.{choose}
 
 left_more : (tr : List Step) (x : Step) → left (tr ++ x ∷ []) ≡ left tr ++ taken_of x

@@ -1,14 +1,13 @@
 -- Where a plan comes from: what held when it was made.
-use Rattle.std.proofs.Common.{◌≡◌, ℕ, zero, suc, ◌+◌, ◌-◌, ◌<◌, ◌≤◌, Bool, true, false, cond, not, ◌&&◌, eqb, ltb, ◌⊎◌, List, [], ◌∷◌, length, take, drop, Some, None, Option, sym, refl, ap, ◌∙◌, subst, inl, inr, ⊎_elim, arith}
+use Rattle.std.proofs.Common.{◌≡◌, ℕ, zero, suc, ◌+◌, ◌-◌, ◌≤◌, true, ltb, List, [], ◌∷◌, take, drop, Some, None, Option, sym, refl, ap, ◌∙◌, subst, ⊎_elim, arith}
 use Rattle.std.proofs.lemmas.Bool.{cases_Bool, cond-true, cond-false, ltb-false}
-use Rattle.sheet.specs.Format.{SlaveLines, SheetLines}
+use Rattle.sheet.specs.Format.{SlaveLines}
 use Rattle.sheet.specs.Rules.{SlavesKeep}
 use Rattle.master.specs.Network.{State, slave_by, counted, going, sweeps_to, single_after, first_due, due_or, next_due, or_else, starts_all, serve_plan, duty_plan_from, duty_plan, single_or, single_plan, sweep_plan, phase_plan, planned}
 use Rattle.master.specs.Step.{duty_of}
 use Rattle.master.specs.Table.{entry_of}
 use Rattle.master.specs.declared.types.Duty.{Duty}
 use Rattle.master.specs.declared.types.Duty.TheVariants as duty
-use Rattle.master.specs.declared.types.Entry.{Entry}
 use Rattle.master.specs.declared.types.Phase.{Phase}
 use Rattle.master.specs.declared.types.Phase.TheVariants.{Running, StopDue, Halted}
 use Rattle.master.specs.declared.types.Plan.{Plan}

@@ -1,5 +1,5 @@
 -- A slave that is owed its start and stays passed is owed it until a start reaches it.
-use Rattle.std.proofs.Common.{◌≡◌, ℕ, ◌-◌, Bool, true, false, cond, not, ◌&&◌, eqb, ltb, ◌⊎◌, List, [], ◌∷◌, ◌++◌, Some, None, Option, sym, refl, ap, ◌∙◌, subst, inl, inr, ⊎_elim, arith}
+use Rattle.std.proofs.Common.{◌≡◌, ℕ, Bool, true, not, ◌&&◌, eqb, ltb, Some, None, Option, sym, refl, subst, ⊎_elim}
 use Rattle.std.proofs.lemmas.Bool.{cases_Bool, cond-true, cond-false}
 use Rattle.frames.specs.Contents.{Content}
 use Rattle.frames.specs.Nmt.{nmt_in, reaches}
@@ -10,7 +10,7 @@ use Rattle.frames.specs.declared.nmt.Command.{Command}
 use Rattle.frames.specs.declared.nmt.Command.TheVariants as command
 use Rattle.frames.specs.declared.nmt.NmtMessage.{NmtMessage}
 use Rattle.sheet.specs.Format.{SlaveLines, SheetLines}
-use Rattle.master.specs.Record.{Try, none, to_ask, asked, at_state, at_control, passed, Reading, Event, heard, tick, put, read, heard_from, waited, put_to, commanded, asks_for, request_read, has_passed, owes_start}
+use Rattle.master.specs.Record.{Try, none, to_ask, asked, at_state, at_control, passed, Reading, Event, heard, tick, put, read, heard_from, waited, put_to, commanded, asks_for, has_passed, owes_start}
 use Rattle.master.specs.Step.{duty_of}
 use Rattle.master.specs.declared.types.Check.TheVariants.{Kind, Vendor, Product, Revision, Serial, Set}
 use Rattle.master.specs.declared.types.Duty.TheVariants as duty

@@ -1,5 +1,5 @@
 -- While a sweep is under way, a listed slave is not cleared and has no request open: so there is no Go.
-use Rattle.std.proofs.Common.{◌≡◌, ℕ, ◌+◌, ◌-◌, ◌%◌, ◌<◌, ◌≤◌, min, Bool, true, false, cond, not, ◌&&◌, eqb, ltb, ◌⊎◌, List, [], ◌∷◌, ◌++◌, length, replicate, Some, None, count_by, Option, sym, refl, ap, ◌∙◌, subst, inl, inr, ⊎_elim, arith}
+use Rattle.std.proofs.Common.{◌≡◌, ℕ, ◌+◌, ◌-◌, ◌%◌, min, Bool, true, false, cond, ◌&&◌, eqb, ltb, ◌⊎◌, List, [], ◌∷◌, length, replicate, Some, None, count_by, Option, sym, refl, ap, ◌∙◌, subst, inl, inr, ⊎_elim, arith}
 use lib.ListN.{length-replicate}
 use Rattle.frames.specs.Contents.{Content}
 use Rattle.frames.specs.Lists.{accepts}
@@ -9,12 +9,12 @@ use Rattle.frames.specs.declared.sdo.Reply.{Reply}
 use Rattle.sheet.specs.Format.{SlaveLines, SheetLines}
 use Rattle.sheet.specs.Rules.{SlavesKeep}
 use Rattle.master.specs.Checks.{runs, verdict_of}
-use Rattle.master.specs.Network.{State, is_running, is_halted, slave_by, fresh_state, going, holds, brings, brought_by, tries_anew, step_in, tick_from, ticked, with_entries, with_clock, with_phase, with_sweep, input_at, taken_by, heard_at, heard_by, applied_to, change_for, is_start, carried_out, planned, plan_content, next_due, starts_all, serve_plan, duty_plan_from, sweep_plan, phase_plan}
+use Rattle.master.specs.Network.{State, is_running, is_halted, slave_by, fresh_state, going, holds, brings, brought_by, tries_anew, step_in, tick_from, ticked, with_entries, with_clock, with_phase, with_sweep, input_at, taken_by, heard_at, heard_by, applied_to, change_for, carried_out, planned, plan_content, next_due, starts_all, serve_plan, duty_plan_from, sweep_plan, phase_plan}
 use Rattle.master.specs.Record.{Every}
 use Rattle.master.specs.FromPort.{LeadsFrom, fresh, then}
-use Rattle.master.specs.Session.{PortState, Machine, Call, hear, pass, work, take, Worked, Step, placing, works_on, after, step_of}
+use Rattle.master.specs.Session.{PortState, Machine, Call, hear, pass, work, take, Worked, Step, placing, after}
 use Rattle.master.specs.Step.{stepped, on_beat, on_sign, on_reply, on_tick, decided, to, is_passed, is_cleared}
-use Rattle.master.specs.Table.{entry_of, changed, change_by, applied, applied_all}
+use Rattle.master.specs.Table.{entry_of, changed, change_by, applied_all}
 use Rattle.master.specs.Table.{fresh as fresh_entry}
 use Rattle.master.specs.declared.types.Brought.{Brought}
 use Rattle.master.specs.declared.types.Brought.TheVariants as brought
@@ -49,7 +49,7 @@ use Rattle.master.proofs.Clearing.{not_full}
 use Rattle.master.proofs.Leading.{get_d_fresh}
 use Rattle.master.proofs.Origins.{Known, known}
 use Rattle.master.proofs.Seeing.{made}
-use Rattle.master.proofs.Spread.{every_map, every_zip, has, entry_same, changed_long, changed_by, changed_by_long, spread, spread_all, applied_long}
+use Rattle.master.proofs.Spread.{every_map, has, entry_same, changed_long, changed_by, changed_by_long, spread, spread_all, applied_long}
 
 -- stages from which only a request leads on
 abbrev first_check : Check → Bool

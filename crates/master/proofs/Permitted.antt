@@ -1,10 +1,9 @@
 -- Wherever a frame stands in the record of a session as put, the record before it permits it.
-use Rattle.std.proofs.Common.{◌≡◌, ℕ, Bool, true, false, cond, ◌⊎◌, List, [], ◌∷◌, ◌++◌, Some, None, Option, sym, refl, ap, ◌∙◌, subst, inl, inr, ⊎_elim, append-nil, arith}
+use Rattle.std.proofs.Common.{◌≡◌, ℕ, ◌⊎◌, List, [], ◌∷◌, ◌++◌, Some, None, Option, sym, refl, ap, subst, inl, inr, ⊎_elim, append-nil, arith}
 use Rattle.frames.specs.Contents.{Content}
 use Rattle.frames.specs.Lists.{accepts}
-use Rattle.frames.specs.Nmt.{nmt_in}
 use Rattle.frames.specs.declared.nmt.Command.TheVariants as command
-use Rattle.sheet.specs.Format.{SlaveLines, SheetLines}
+use Rattle.sheet.specs.Format.{SheetLines}
 use Rattle.sheet.specs.Rules.{SlavesKeep}
 use Rattle.master.specs.Network.{State, nmt_to, planned, plan_content}
 use Rattle.master.specs.Record.{Every, Event, heard, tick, put, MayPut}
@@ -15,7 +14,7 @@ use Rattle.master.specs.declared.types.Phase.TheVariants.{Running, StopDue}
 use Rattle.master.proofs.Choosing.{choose}
 use Rattle.master.proofs.Agreement.{Agrees, live, stopping, halted, state}
 use Rattle.master.proofs.Fairness.{Fair, fair_step, fair_change, fair_fresh}
-use Rattle.master.proofs.Lasting.{Holds, holds}
+use Rattle.master.proofs.Lasting.{holds}
 use Rattle.master.proofs.Leading.{agrees, record_more}
 use Rattle.master.proofs.Origins.{origin}
 use Rattle.master.proofs.Permitting.{may_put, other_no_reset, is_message, stop_no_start}

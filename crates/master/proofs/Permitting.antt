@@ -1,7 +1,7 @@
 -- Every frame that a work puts is one that the record before it permits.
-use Rattle.std.proofs.Common.{◌≡◌, ℕ, ◌+◌, ◌<◌, ◌≤◌, Bool, true, false, cond, not, ◌&&◌, eqb, ◌⊎◌, List, [], ◌∷◌, ◌++◌, length, Some, None, Option, sym, refl, ap, ◌∙◌, subst, inl, inr, ⊎_elim, arith}
+use Rattle.std.proofs.Common.{◌≡◌, ℕ, ◌≤◌, Bool, true, false, cond, not, ◌&&◌, eqb, List, length, Some, None, sym, refl, ap, ◌∙◌, subst, arith}
 use Rattle.std.specs.Option.{option_map}
-use Rattle.std.proofs.lemmas.Bool.{and_parts, not-true, eqb-true, cases_Bool}
+use Rattle.std.proofs.lemmas.Bool.{and_parts, not-true, eqb-true}
 use Rattle.frames.specs.Contents.{Content}
 use Rattle.frames.specs.Nmt.{nmt_in, reaches}
 use Rattle.frames.specs.Sdo.{request_content}
@@ -11,8 +11,8 @@ use Rattle.frames.specs.declared.nmt.NmtMessage.{NmtMessage}
 use Rattle.sheet.specs.Format.{SlaveLines, SheetLines}
 use Rattle.sheet.specs.Rules.{SlavesKeep}
 use Rattle.master.specs.Checks.{request_of}
-use Rattle.master.specs.Network.{State, slave_by, counted, going, holds, spared_at, sweeps_to, starts_all, command_of, nmt_to, duty_content, plan_content}
-use Rattle.master.specs.Record.{Every, Event, Reading, reading, all_cleared, has_passed, silent_or_running, is_reset, MayStart, MayReset, MayPut}
+use Rattle.master.specs.Network.{State, slave_by, counted, going, holds, spared_at, starts_all, command_of, nmt_to, duty_content, plan_content}
+use Rattle.master.specs.Record.{Every, Event, Reading, reading, has_passed, silent_or_running, is_reset, MayStart, MayReset, MayPut}
 use Rattle.master.specs.Step.{duty_of, is_passed, is_spared, may_run}
 use Rattle.master.specs.Table.{entry_of}
 use Rattle.master.specs.declared.types.Duty.{Duty}
@@ -34,7 +34,7 @@ use Rattle.master.proofs.Clearing.{live_go, count_all, count_none}
 use Rattle.master.proofs.Fairness.{Fair, due_reset}
 use Rattle.master.proofs.Origins.{Owed, Origin}
 use Rattle.master.proofs.Putting.{nmt_back, no_command, reach_one}
-use Rattle.master.proofs.Seeing.{seen, try_of, seen_passed}
+use Rattle.master.proofs.Seeing.{seen_passed}
 use Rattle.master.proofs.Spread.{every_map, every_zip, Ranged, ranged, found, has}
 
 same_word : (w : Word) → silent_or_running w ≡ may_run w

@@ -1,11 +1,9 @@
 -- What a work would put, from its parts.
-use Rattle.std.proofs.Common.{◌≡◌, ℕ, ◌<◌, ◌≤◌, Bool, true, false, cond, ltb, List, length, take, drop, Some, None, Option, sym, refl, ap, ◌∙◌, arith}
+use Rattle.std.proofs.Common.{◌≡◌, ℕ, ◌<◌, ◌≤◌, Bool, length, take, drop, Some, None, Option, sym, refl, ap, ◌∙◌, arith}
 use Rattle.std.proofs.lemmas.List.{take_all}
 use Rattle.std.proofs.lemmas.List.Sums.{count_by-le-length}
 use Rattle.std.proofs.lemmas.Bool.{cond-true, cond-false, lt-ltb, le-ltb}
-use Rattle.sheet.specs.Format.{SlaveLines}
 use Rattle.master.specs.declared.types.Duty.{Duty}
-use Rattle.master.specs.declared.types.Entry.{Entry}
 use Rattle.master.specs.declared.types.Phase.{Phase}
 use Rattle.master.specs.declared.types.Phase.TheVariants.{Running, StopDue, Halted}
 use Rattle.master.specs.declared.types.Plan.{Plan}

@@ -1,28 +1,25 @@
 -- A frame put: the entries change as the record reads it.
-use Rattle.std.proofs.Common.{◌≡◌, ℕ, ◌+◌, ◌/◌, ◌%◌, ◌<◌, ◌≤◌, Bool, true, false, cond, not, ◌&&◌, ◌||◌, eqb, ◌⊎◌, List, [], ◌∷◌, ◌++◌, length, get_or, Some, None, Option, sym, refl, ap, ◌∙◌, subst, inl, inr, ⊎_elim, arith}
+use Rattle.std.proofs.Common.{◌≡◌, ℕ, ◌+◌, ◌/◌, ◌%◌, ◌≤◌, Bool, true, false, cond, eqb, List, [], ◌∷◌, ◌++◌, length, get_or, Some, None, Option, sym, refl, ap, ◌∙◌, subst, ⊎_elim, arith}
 use Rattle.std.specs.Str.{bytes_eq}
 use Rattle.std.proofs.lemmas.Slice.Eq.{bytes_eq-Decides}
-use Rattle.std.proofs.lemmas.Bool.{cases_eq, cases_Bool, cond-true, cond-false, eq-eqb, ne_eqb, and_left, and_right, and_from}
+use Rattle.std.proofs.lemmas.Bool.{cases_eq, cond-true, cond-false, eq-eqb, ne_eqb, and_left, and_right, and_from}
 use Rattle.std.proofs.lemmas.Bool.Decides.{nat_tests}
 use Rattle.frames.specs.Contents.{Content}
-use Rattle.frames.specs.Nmt.{nmt_in, nmt_content, reaches}
+use Rattle.frames.specs.Nmt.{nmt_in, reaches}
 use Rattle.frames.specs.Sdo.{request_content, write_code, access_bytes}
 use Rattle.frames.specs.declared.nmt.Command.{Command}
 use Rattle.frames.specs.declared.nmt.Command.TheVariants as command
-use Rattle.frames.specs.declared.nmt.NmtMessage.{NmtMessage}
-use Rattle.frames.specs.declared.sdo.Access.TheVariants.{Write}
 use Rattle.frames.specs.declared.sdo.Request.{Request}
 use Rattle.frames.specs.declared.sdo.Size.{Size}
 use Rattle.frames.specs.declared.sdo.Size.TheVariants.{One, Two, Three, Four}
 use Rattle.sheet.specs.Format.{SlaveLines, SheetLines}
 use Rattle.sheet.specs.Rules.{SlavesKeep}
 use Rattle.master.specs.Checks.{size_by, request_of, no_set}
-use Rattle.master.specs.Network.{State, slave_by, applied_to, command_of, nmt_to}
-use Rattle.master.specs.Record.{Try, none, to_ask, asked, at_state, at_control, passed, Reading, Event, put, read, reading, now_at, started_at, commanded, same_content, asks_for, awaited, request_read, put_to}
-use Rattle.master.specs.Step.{reset_put, request_put, start_put, started_from}
-use Rattle.master.specs.Table.{entry_of, change_by, applied, applied_all}
+use Rattle.master.specs.Network.{slave_by, applied_to, command_of, nmt_to}
+use Rattle.master.specs.Record.{Try, none, to_ask, asked, at_state, at_control, passed, Reading, Event, put, read, reading, started_at, commanded, same_content, asks_for, awaited, request_read, put_to}
+use Rattle.master.specs.Step.{reset_put, start_put, started_from}
+use Rattle.master.specs.Table.{entry_of, change_by, applied_all}
 use Rattle.master.specs.declared.types.Change.{Change}
-use Rattle.master.specs.declared.types.Change.TheVariants as change
 use Rattle.master.specs.declared.types.Check.{Check}
 use Rattle.master.specs.declared.types.Check.TheVariants.{Kind, Vendor, Product, Revision, Serial, Set}
 use Rattle.master.specs.declared.types.Entry.{Entry}
@@ -35,7 +32,7 @@ use Rattle.master.specs.declared.types.Word.{Word}
 use Rattle.master.proofs.Agreement.{Same, pushed}
 use Rattle.master.proofs.Seeing.{seen, made, try_of, to_ask_of}
 use Rattle.master.specs.Record.{Every}
-use Rattle.master.proofs.Spread.{every_map, every_zip, Ranged, ranged, found, changed_by, spread, spread_all}
+use Rattle.master.proofs.Spread.{every_zip, Ranged, ranged, found, changed_by, spread, spread_all}
 
 -- an NMT command is read back as what it is
 pub nmt_back : (c : Command) (n : ℕ) → nmt_in (nmt_to c n) ≡ Some (record { command = c; node = n })

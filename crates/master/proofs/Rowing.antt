@@ -1,18 +1,18 @@
 -- Rows of calls: their loop, and the trace that their caller sees.
-use Rattle.std.proofs.Common.{◌≡◌, ℕ, ◌+◌, ◌-◌, ◌<◌, ◌≤◌, Bool, true, false, cond, ◌&&◌, ltb, List, [], ◌∷◌, ◌++◌, map, length, get_or, take, drop, set, Some, None, Option, sym, refl, ap, ◌∙◌, subst, append_assoc, append-nil, arith, length-append}
+use Rattle.std.proofs.Common.{◌≡◌, ℕ, ◌+◌, ◌-◌, ◌<◌, ◌≤◌, Bool, cond, ◌&&◌, ltb, List, [], ◌∷◌, ◌++◌, map, length, get_or, take, drop, set, Some, None, Option, sym, refl, ap, ◌∙◌, subst, append_assoc, append-nil, arith, length-append}
 use mathlib.Core.List.{map-append}
 use lib.Seq.{map-set_same, drop-append_seam}
-use Rattle.std.proofs.lemmas.List.{take_all, take_more_set, drop_all, drop-set, at_drop_more, drop-set-lt}
+use Rattle.std.proofs.lemmas.List.{take_all, take_more_set, drop_all, at_drop_more, drop-set-lt}
 use Rattle.frames.specs.Contents.{Content, content_of}
 use Rattle.frames.specs.Lists.{accepts}
 use Rattle.sheet.specs.Format.{SheetLines}
 use Rattle.sheet.specs.Rules.{Keeps}
 use Rattle.master.specs.Masters.{called, worked_by}
 use Rattle.master.specs.Network.{is_halted, planned, plan_content, carried_out, going}
-use Rattle.master.specs.Rows.{Seen, heard, ticked, worked, took, call_of, seen_of, seen_at, seen_all, after_all, steps_all, steps_in, taken_in, trace_in, RowDetermined}
+use Rattle.master.specs.Rows.{Seen, worked, took, call_of, seen_of, seen_at, seen_all, after_all, steps_all, steps_in, taken_in, trace_in, RowDetermined}
 use Rattle.master.specs.FromPort.{fresh_machine, LeadsFrom, fresh, then, StandsFrom}
 use Rattle.master.specs.Session.{take as take_first}
-use Rattle.master.specs.Session.{PortState, Machine, with_port, enters, hear, pass, work, placed, idle, refused, Step, hears, passes, works, takes, is_command, leaves, placing, works_on, after, step_of, put_by, left, entered}
+use Rattle.master.specs.Session.{PortState, Machine, with_port, enters, hear, pass, work, placed, idle, refused, Step, hears, passes, works, takes, is_command, leaves, placing, after, step_of, put_by, left, entered}
 use Rattle.master.specs.Session.{Worked as Outcome}
 use Rattle.master.specs.declared.calls.Call.{Call}
 use Rattle.master.specs.declared.calls.Call.TheVariants as call

@@ -1,12 +1,12 @@
 -- An entry as the record reads its slave, and that what happens to the one happens to the other.
-use Rattle.std.proofs.Common.{◌≡◌, ℕ, ◌+◌, ◌-◌, Bool, true, false, cond, not, ◌&&◌, eqb, ltb, length, Some, None, Option, sym, refl, ap, ◌∙◌, arith}
+use Rattle.std.proofs.Common.{◌≡◌, ℕ, ◌+◌, ◌-◌, Bool, true, false, cond, not, ◌&&◌, eqb, ltb, length, Some, None, Option, refl, ap}
 use Rattle.frames.specs.declared.error_control.Sign.{Sign}
 use Rattle.frames.specs.declared.error_control.Sign.TheVariants as sign
 use Rattle.frames.specs.declared.sdo.Reply.{Reply}
 use Rattle.sheet.specs.Format.{SlaveLines}
 use Rattle.master.specs.Checks.{runs, verdict_of, following, from_control, from_set, from_state, from_serial, from_revision, from_product, from_vendor}
-use Rattle.master.specs.Record.{Try, none, to_ask, asked, at_state, at_control, passed, Reading, now_at, beaten, signed, judged_by, waited, started_at, onward, has_passed, clears, owes_start, silent_or_running}
-use Rattle.master.specs.Step.{stepped, on_beat, on_sign, on_reply, on_tick, reset_put, request_put, start_put, gone_on, decided, is_passed, is_cleared, is_spared, may_run}
+use Rattle.master.specs.Record.{Try, none, to_ask, asked, at_state, at_control, passed, Reading, now_at, beaten, signed, judged_by, waited, onward, has_passed, clears}
+use Rattle.master.specs.Step.{on_beat, on_sign, on_reply, on_tick, gone_on, decided, is_passed, is_cleared}
 use Rattle.master.specs.declared.types.Check.{Check}
 use Rattle.master.specs.declared.types.Check.TheVariants.{Kind, Vendor, Product, Revision, Serial, Set}
 use Rattle.master.specs.declared.types.Entry.{Entry}

@@ -1,11 +1,11 @@
 -- What a change of the table leaves at each listed slave.
-use Rattle.std.proofs.Common.{◌≡◌, ℕ, ◌-◌, ◌<◌, ◌≤◌, Bool, true, false, cond, eqb, ◌≢◌, List, [], ◌∷◌, length, set, Some, None, Option, sym, refl, ap, ◌∙◌, subst, ⊎_elim, arith, length-set, get_or-set_other, get_or-set_same}
-use Rattle.std.proofs.lemmas.Bool.{cases_eq, cases_Bool, cond-true, cond-false, eq-eqb, ne_eqb, eqb-true, eqb-false}
+use Rattle.std.proofs.Common.{◌≡◌, ℕ, ◌-◌, ◌<◌, ◌≤◌, cond, eqb, ◌≢◌, List, [], ◌∷◌, length, Some, None, Option, sym, refl, ap, ◌∙◌, subst, ⊎_elim, arith, length-set, get_or-set_other, get_or-set_same}
+use Rattle.std.proofs.lemmas.Bool.{cases_eq, cases_Bool, cond-true, cond-false, eq-eqb, ne_eqb, eqb-true}
 use Rattle.sheet.specs.Format.{SlaveLines}
-use Rattle.sheet.specs.Rules.{SlaveKeeps, SlavesKeep}
+use Rattle.sheet.specs.Rules.{SlavesKeep}
 use Rattle.master.specs.declared.types.Change.{Change}
 use Rattle.master.specs.declared.types.Entry.{Entry}
-use Rattle.master.specs.Network.{slave_by, applied_to}
+use Rattle.master.specs.Network.{slave_by}
 use Rattle.master.specs.Record.{Every}
 use Rattle.master.specs.Table.{fresh, entry_of, changed, change_by, applied, applied_all}
 

@@ -1,14 +1,14 @@
 -- The laws of every session.
-use Rattle.std.proofs.Common.{◌≡◌, Bool, List, [], ◌∷◌, ◌++◌, sym, refl, ap, ◌∙◌, subst, append-nil}
+use Rattle.std.proofs.Common.{◌≡◌, List, [], ◌∷◌, ◌++◌, sym, refl, ap, ◌∙◌, subst, append-nil}
 use Rattle.frames.specs.Contents.{Content}
 use Rattle.sheet.specs.Format.{SheetLines}
 use Rattle.sheet.specs.Rules.{Keeps}
 use Rattle.master.specs.FromPort.{LeadsFrom, StandsFrom, LawsFromPort, Carries, Tells}
 use Rattle.master.specs.FromPort as from
 use Rattle.master.specs.Network.{going}
-use Rattle.master.specs.Record.{Event, heard, tick, put}
-use Rattle.master.specs.Session.{PortState, Machine, Call, Worked, placed, idle, refused, Step, hears, passes, works, takes, after, step_of, record_of, left, entered, Leads, fresh, then}
-use Rattle.master.specs.Stands.{Stands, seen_all, record_from, Determined, SessionLaws}
+use Rattle.master.specs.Record.{heard, tick, put}
+use Rattle.master.specs.Session.{PortState, Machine, Call, placed, idle, refused, Step, hears, passes, works, takes, after, step_of, record_of, left, entered, Leads, fresh, then}
+use Rattle.master.specs.Stands.{seen_all, record_from, Determined, SessionLaws}
 use Rattle.master.proofs.Clearing.{go_law}
 use Rattle.master.proofs.Ordering.{ordered}
 use Rattle.master.proofs.Permitted.{permitted}

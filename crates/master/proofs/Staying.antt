@@ -1,11 +1,11 @@
 -- No call changes the sheet.
-use Rattle.std.proofs.Common.{◌≡◌, ℕ, ◌+◌, ◌%◌, min, Bool, true, false, cond, List, [], ◌∷◌, ◌++◌, Some, None, Option, sym, refl, ◌∙◌}
+use Rattle.std.proofs.Common.{◌≡◌, ◌+◌, ◌%◌, min, Bool, false, List, [], ◌∷◌, Some, None, Option, refl, ◌∙◌}
 use Rattle.frames.specs.Contents.{Content}
 use Rattle.frames.specs.Lists.{accepts}
 use Rattle.sheet.specs.Format.{SlaveLines, SheetLines}
 use Rattle.master.specs.Network.{State, is_running, is_halted, slave_by, step_in, tick_from, ticked, with_clock, input_at, taken_by, heard_at, heard_by, planned, plan_content, carried_out}
 use Rattle.master.specs.FromPort.{LeadsFrom, fresh, then}
-use Rattle.master.specs.Session.{PortState, Machine, Call, hear, pass, work, take, Worked, Step, placing, works_on, after}
+use Rattle.master.specs.Session.{PortState, Machine, Call, hear, pass, work, take, Worked, Step, placing, after}
 use Rattle.master.specs.declared.types.Input.{Input}
 use Rattle.master.specs.declared.types.Input.TheVariants as input
 use Rattle.master.specs.declared.types.Plan.{Plan}

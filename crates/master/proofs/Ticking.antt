@@ -1,8 +1,8 @@
 -- The loop that ticks the slaves, step by step.
-use Rattle.std.proofs.Common.{◌≡◌, ℕ, ◌+◌, ◌<◌, ◌≤◌, min, Bool, true, false, cond, List, [], ◌∷◌, length, get_or, drop, sym, refl, ap, ◌∙◌, arith}
+use Rattle.std.proofs.Common.{◌≡◌, ℕ, ◌+◌, ◌<◌, ◌≤◌, min, Bool, true, false, cond, List, length, get_or, drop, sym, refl, ap, ◌∙◌}
 use Rattle.std.proofs.lemmas.List.{at_drop_more, at_drop_all}
 use Rattle.std.proofs.lemmas.Bool.{cond-true, cond-false}
-use Rattle.sheet.specs.Format.{SlaveLines, SheetLines}
+use Rattle.sheet.specs.Format.{SlaveLines}
 use Rattle.master.specs.declared.types.Brought.{Brought}
 use Rattle.master.specs.declared.types.Brought.TheVariants as brought
 use Rattle.master.specs.declared.types.Input.{Input}

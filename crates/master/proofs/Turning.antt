@@ -1,10 +1,10 @@
 -- Whose turn it is: the slaves after the one last served, around to a slave that is owed something.
-use Rattle.std.proofs.Common.{◌≡◌, ℕ, zero, suc, ◌+◌, ◌-◌, ◌<◌, ◌≤◌, Bool, true, false, cond, not, ◌&&◌, ◌||◌, eqb, ltb, leb, ◌⊎◌, List, [], ◌∷◌, ◌++◌, length, take, drop, Some, None, count_by, Option, sym, refl, ap, ◌∙◌, subst, inl, inr, ⊎_elim, one-add, arith}
-use Rattle.std.proofs.lemmas.Bool.{cases_Bool, cases_lt, cond-true, cond-false, leb-true, leb-false, lt-ltb, le-ltb, le-leb, lt-leb}
+use Rattle.std.proofs.Common.{◌≡◌, ℕ, zero, suc, ◌+◌, ◌<◌, ◌≤◌, Bool, true, false, cond, ◌&&◌, ◌||◌, ltb, leb, ◌⊎◌, List, [], ◌∷◌, take, drop, Some, None, count_by, Option, sym, refl, ap, ◌∙◌, subst, inl, inr, ⊎_elim, arith}
+use Rattle.std.proofs.lemmas.Bool.{cases_Bool, cases_lt, lt-ltb, le-ltb, le-leb, lt-leb}
 use Rattle.std.proofs.lemmas.Bool.Decides.{nat_tests}
-use Rattle.sheet.specs.Format.{SlaveLines, SheetLines}
+use Rattle.sheet.specs.Format.{SlaveLines}
 use Rattle.sheet.specs.Rules.{SlavesKeep}
-use Rattle.master.specs.Network.{State, slave_by, holds, counted, going, first_due, due_or, next_due, or_else}
+use Rattle.master.specs.Network.{State, slave_by, counted, going, first_due, due_or, next_due, or_else}
 use Rattle.master.specs.Record.{Every}
 use Rattle.master.specs.Step.{duty_of}
 use Rattle.master.specs.Table.{entry_of}
@@ -13,7 +13,7 @@ use Rattle.master.specs.declared.types.Entry.{Entry}
 use Rattle.master.specs.declared.types.Quality.TheVariants as quality
 use Rattle.master.proofs.Agreement.{SomeOne, some_found}
 use Rattle.master.proofs.Clearing.{count_cons}
-use Rattle.master.proofs.Origins.{every_take, every_drop}
+use Rattle.master.proofs.Origins.{every_take}
 use Rattle.master.proofs.Spread.{every_map, Ranged, ranged}
 
 -- the nodes after l, around to e

@@ -1,5 +1,5 @@
 -- Nobody owed a start waits for ever.
-use Rattle.std.proofs.Common.{◌≡◌, ℕ, ◌+◌, ◌%◌, ◌<◌, ◌≤◌, min, Bool, true, false, cond, not, ◌&&◌, eqb, ◌⊎◌, List, [], ◌∷◌, ◌++◌, length, Some, None, count_by, Option, sym, refl, ap, ◌∙◌, subst, inl, inr, ⊎_elim, append_assoc, append-nil, arith}
+use Rattle.std.proofs.Common.{◌≡◌, ℕ, ◌+◌, ◌%◌, ◌<◌, ◌≤◌, min, Bool, true, false, cond, ◌⊎◌, List, [], ◌∷◌, ◌++◌, length, Some, None, Option, sym, refl, ap, ◌∙◌, subst, inl, inr, ⊎_elim, append_assoc, append-nil, arith}
 use Rattle.std.proofs.lemmas.List.Sums.{count_by-le-length}
 use Rattle.std.proofs.lemmas.Bool.{cases_Bool, cases_lt, cond-true, cond-false}
 use Rattle.frames.specs.Contents.{Content}
@@ -7,11 +7,11 @@ use Rattle.frames.specs.Lists.{accepts}
 use Rattle.frames.specs.Nmt.{nmt_in}
 use Rattle.sheet.specs.Format.{SlaveLines, SheetLines}
 use Rattle.sheet.specs.Rules.{SlavesKeep}
-use Rattle.master.specs.Network.{State, is_running, slave_by, going, holds, brings, brought_by, tries_anew, step_in, tick_from, ticked, with_entries, with_clock, with_phase, with_sweep, input_at, taken_by, heard_at, heard_by, planned, plan_content, carried_out}
-use Rattle.master.specs.Record.{Every, Event, heard, tick, put, Reading, read, reading, all_cleared, has_passed, owes_start, is_owed}
+use Rattle.master.specs.Network.{State, is_running, slave_by, going, brings, brought_by, tries_anew, step_in, tick_from, ticked, with_entries, with_clock, with_phase, with_sweep, input_at, taken_by, heard_at, heard_by, planned, plan_content, carried_out}
+use Rattle.master.specs.Record.{Event, heard, tick, put, Reading, reading, all_cleared, has_passed, owes_start, is_owed}
 use Rattle.master.specs.FromPort.{LeadsFrom, fresh, then}
-use Rattle.master.specs.Session.{PortState, Machine, Call, hear, pass, work, take, Worked, placed, idle, refused, Step, hears, passes, works, takes, placing, works_on, after, step_of, put_by, events, noted, record_of, free_of, free_works, StartIn}
-use Rattle.master.specs.Step.{stepped, is_cleared, duty_of}
+use Rattle.master.specs.Session.{PortState, Machine, Call, hear, pass, work, take, Worked, placed, idle, refused, Step, hears, passes, works, takes, placing, after, step_of, noted, record_of, free_of, free_works, StartIn}
+use Rattle.master.specs.Step.{stepped, duty_of}
 use Rattle.master.specs.Table.{entry_of, changed}
 use Rattle.master.specs.declared.types.Brought.{Brought}
 use Rattle.master.specs.declared.types.Brought.TheVariants as brought
@@ -21,18 +21,16 @@ use Rattle.master.specs.declared.types.Input.{Input}
 use Rattle.master.specs.declared.types.Input.TheVariants as input
 use Rattle.master.specs.declared.types.Phase.TheVariants.{Running, StopDue, Halted}
 use Rattle.master.specs.declared.types.Plan.TheVariants as plan
-use Rattle.master.specs.declared.types.Quality.TheVariants as quality
 use Rattle.master.specs.declared.types.ResetKind.TheVariants as reset
-use Rattle.master.specs.declared.types.Sweep.{Sweep}
 use Rattle.master.specs.declared.types.Sweep.TheVariants.{Over, Begun}
 use Rattle.master.proofs.Choosing.{choose}
-use Rattle.master.proofs.Agreement.{SomeOne, Same, Idle, Agrees, live, stopping, halted, state, pushed, every_found}
+use Rattle.master.proofs.Agreement.{Same, Agrees, live, stopping, halted, state, pushed, every_found}
 use Rattle.master.proofs.Clearing.{go_law, dead_closed, count_none}
-use Rattle.master.proofs.Freely.{away, Starts, Turned, turned}
+use Rattle.master.proofs.Freely.{away, Turned, turned}
 use Rattle.master.proofs.Leading.{agrees, record_more}
 use Rattle.master.proofs.Owing.{Other, owed_step, start_owed}
 use Rattle.master.proofs.Pending.{Ready, ready, swept_out}
-use Rattle.master.proofs.Seeing.{seen, try_of}
+use Rattle.master.proofs.Seeing.{try_of}
 use Rattle.master.proofs.Turning.{in_arc, arc_self}
 
 -- what is heard and what ticks does not change who was served last

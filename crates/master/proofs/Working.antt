@@ -1,19 +1,18 @@
 -- A work that puts a frame, while the master runs: entries and record still agree.
-use Rattle.std.proofs.Common.{◌≡◌, ℕ, ◌<◌, ◌≤◌, Bool, true, false, cond, ◌||◌, eqb, List, [], ◌∷◌, ◌++◌, length, Some, None, Option, sym, refl, ap, ◌∙◌, subst, arith}
+use Rattle.std.proofs.Common.{◌≡◌, ℕ, ◌≤◌, Bool, true, false, cond, ◌||◌, List, [], ◌∷◌, ◌++◌, length, Some, None, Option, sym, refl, ap, ◌∙◌, subst, arith}
 use Rattle.std.specs.Option.{option_map}
 use Rattle.std.proofs.lemmas.Bool.{cond-true, cond-false, eq-eqb, ne_eqb}
 use Rattle.frames.specs.Contents.{Content}
-use Rattle.frames.specs.Nmt.{reaches}
 use Rattle.frames.specs.Sdo.{request_content}
 use Rattle.frames.specs.declared.nmt.Command.{Command}
 use Rattle.frames.specs.declared.nmt.Command.TheVariants as command
 use Rattle.sheet.specs.Format.{SlaveLines, SheetLines}
 use Rattle.sheet.specs.Rules.{SlavesKeep}
 use Rattle.master.specs.Checks.{request_of}
-use Rattle.master.specs.Network.{State, slave_by, applied_to, command_of, nmt_to, duty_content, plan_content, carried_out, change_for, is_start, planned}
+use Rattle.master.specs.Network.{State, slave_by, applied_to, command_of, nmt_to, duty_content, plan_content, carried_out}
 use Rattle.master.specs.Record.{Reading, Event, put, read, commanded}
 use Rattle.master.specs.Step.{duty_of, requested, request_put}
-use Rattle.master.specs.Table.{entry_of, change_by, applied, applied_all}
+use Rattle.master.specs.Table.{entry_of, change_by, applied_all}
 use Rattle.master.specs.declared.types.Change.{Change}
 use Rattle.master.specs.declared.types.Change.TheVariants as change
 use Rattle.master.specs.declared.types.Check.{Check}
@@ -21,10 +20,9 @@ use Rattle.master.specs.declared.types.Check.TheVariants.{Kind, Vendor, Product,
 use Rattle.master.specs.declared.types.Duty.{Duty}
 use Rattle.master.specs.declared.types.Duty.TheVariants as duty
 use Rattle.master.specs.declared.types.Entry.{Entry}
-use Rattle.master.specs.declared.types.Phase.TheVariants.{Running, StopDue}
+use Rattle.master.specs.declared.types.Phase.TheVariants.{Running}
 use Rattle.master.specs.declared.types.Plan.{Plan}
 use Rattle.master.specs.declared.types.Plan.TheVariants as plan
-use Rattle.master.specs.declared.types.ResetKind.{ResetKind}
 use Rattle.master.specs.declared.types.Stage.{Stage}
 use Rattle.master.specs.declared.types.Stage.TheVariants.{AwaitBoot, Ask, Asked, ListenState, ListenControl, Passed, Retry, ResetDue}
 use Rattle.master.specs.declared.types.Sweep.{Sweep}

@@ -1,5 +1,5 @@
 -- The checks of a slave's try: what each asks, what an answer means, and which check follows.
-use Rattle.std.specs.Prelude.{ℕ, ◌+◌, Bool, true, false, cond, not, ◌&&◌, List, length, ◌==◌, nat_lt, slice_index_or}
+use Rattle.std.specs.Prelude.{ℕ, ◌+◌, Bool, true, false, cond, not, ◌&&◌, length, ◌==◌, nat_lt, slice_index_or}
 use Rattle.frames.specs.declared.error_control.Sign.{Sign}
 use Rattle.frames.specs.declared.error_control.Sign.TheVariants as sign
 use Rattle.frames.specs.declared.sdo.Access.TheVariants.{Read, Write}

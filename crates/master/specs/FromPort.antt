@@ -1,5 +1,5 @@
 -- Sessions of a master whose port may hold frames already when it is made, and what each call of a master owes them.
-use Rattle.std.specs.Prelude.{◌≡◌, ℕ, ◌<◌, Bool, true, List, [], ◌∷◌, ◌++◌, length, Some}
+use Rattle.std.specs.Prelude.{◌≡◌, ◌<◌, Bool, true, List, [], ◌∷◌, ◌++◌, length, Some}
 use Rattle.frames.specs.Contents.{Content}
 use Rattle.frames.specs.Nmt.{nmt_in}
 use Rattle.frames.specs.declared.nmt.Command.TheVariants as command

@@ -1,5 +1,5 @@
 -- The state of a master without its port, and what the calls make of it.
-use Rattle.std.specs.Prelude.{◌≡◌, ℕ, zero, suc, ◌+◌, ◌-◌, ◌%◌, min, Bool, true, false, cond, not, ◌&&◌, ◌||◌, List, [], ◌∷◌, ◌++◌, length, take, drop, replicate, Some, None, count_by, Option, ◌==◌, nat_le, nat_lt}
+use Rattle.std.specs.Prelude.{◌≡◌, ℕ, zero, suc, ◌+◌, ◌-◌, ◌%◌, min, Bool, true, false, cond, not, ◌&&◌, ◌||◌, List, [], ◌∷◌, length, take, drop, replicate, Some, None, count_by, Option, ◌==◌, nat_le, nat_lt}
 use Rattle.std.specs.Option.{option_map}
 use Rattle.frames.specs.Contents.{Content}
 use Rattle.frames.specs.Nmt.{nmt_content}
@@ -8,7 +8,6 @@ use Rattle.frames.specs.Signs.{sign_in}
 use Rattle.frames.specs.declared.error_control.Sign.{Sign}
 use Rattle.frames.specs.declared.nmt.Command.{Command}
 use Rattle.frames.specs.declared.nmt.Command.TheVariants as command
-use Rattle.frames.specs.declared.sdo.Reply.{Reply}
 use Rattle.sheet.specs.Format.{SlaveLines, SheetLines}
 use Rattle.master.specs.Checks.{request_of}
 use Rattle.master.specs.Step.{stepped, is_passed, is_cleared, is_spared, duty_of}
@@ -17,7 +16,6 @@ use Rattle.master.specs.declared.types.Brought.{Brought}
 use Rattle.master.specs.declared.types.Brought.TheVariants as brought
 use Rattle.master.specs.declared.types.Change.{Change}
 use Rattle.master.specs.declared.types.Change.TheVariants as change
-use Rattle.master.specs.declared.types.Check.{Check}
 use Rattle.master.specs.declared.types.Duty.{Duty}
 use Rattle.master.specs.declared.types.Duty.TheVariants as duty
 use Rattle.master.specs.declared.types.Entry.{Entry}

@@ -1,5 +1,5 @@
 -- Rows of calls on a fresh master and its empty port, as plain values.
-use Rattle.std.specs.Prelude.{◌≡◌, ℕ, ◌+◌, ◌-◌, Bool, true, false, cond, ◌&&◌, List, [], ◌∷◌, ◌++◌, Some, None, Option, ◌==◌, nat_lt}
+use Rattle.std.specs.Prelude.{◌≡◌, ℕ, ◌+◌, ◌-◌, Bool, true, cond, ◌&&◌, List, [], ◌∷◌, ◌++◌, Some, None, Option, ◌==◌, nat_lt}
 use Rattle.frames.specs.Contents.{Content}
 use Rattle.frames.specs.Lists.{accepts}
 use Rattle.frames.specs.Nmt.{nmt_in, reaches}

@@ -1,5 +1,5 @@
 -- The laws of a session, in the subject's words: over the trace, the bus record that it determines, the port's list and the sheet.
-use Rattle.std.specs.Prelude.{◌≡◌, ℕ, ◌<◌, Bool, true, false, List, [], ◌∷◌, ◌++◌, map, length, Some, Option}
+use Rattle.std.specs.Prelude.{◌≡◌, ℕ, ◌<◌, Bool, true, List, [], ◌∷◌, ◌++◌, length, Some, Option}
 use Rattle.frames.specs.Contents.{Content}
 use Rattle.frames.specs.Nmt.{nmt_in}
 use Rattle.frames.specs.declared.nmt.Command.TheVariants as command

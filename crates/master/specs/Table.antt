@@ -1,5 +1,5 @@
 -- The table of entries, one for each node from 1 to 127, read and changed by slave.
-use Rattle.std.specs.Prelude.{◌≡◌, ℕ, ◌-◌, Bool, true, false, cond, List, [], ◌∷◌, None, slice_index_or, slice_set}
+use Rattle.std.specs.Prelude.{◌≡◌, ◌-◌, Bool, true, false, cond, List, [], ◌∷◌, None, slice_index_or, slice_set}
 use Rattle.sheet.specs.Format.{SlaveLines}
 use Rattle.master.specs.declared.types.Brought.TheVariants.{Nothing}
 use Rattle.master.specs.declared.types.Change.{Change}

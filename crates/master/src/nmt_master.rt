@@ -27,8 +27,8 @@ pub struct Master<P> {
 impl<P: Port> Master<P> {
     // A fresh master: a sweep 82h is begun, and nobody has passed.
     pub fn new(sheet: Sheet, port: P) -> Master<P>
-        ensures state { machine_by waiting most gap pause result ≡ fresh_machine (lines_of sheet) (port_by waiting most gap pause port) }
-        ensures law { LeadsFrom (lines_of sheet) (port_by waiting most gap pause port) [] (machine_by waiting most gap pause result) }
+        ensures state { machine_by P.waiting P.most P.gap P.pause result ≡ fresh_machine (lines_of sheet) (port_by P.waiting P.most P.gap P.pause port) }
+        ensures law { LeadsFrom (lines_of sheet) (port_by P.waiting P.most P.gap P.pause port) [] (machine_by P.waiting P.most P.gap P.pause result) }
     {
         Master {
             net: Network::new(sheet),
@@ -50,9 +50,9 @@ impl<P: Port> Master<P> {
 
     // A frame came over the bus: its identifier and bytes, as the bus gives them. Refused: 11.
     pub fn heard(&mut self, id: u32, bytes: &[u8]) -> Result<Use, Refusal>
-        ensures answer { result ≡ (hearing id bytes.now (machine_by waiting most gap pause self.old)).0 }
-        ensures state { (machine_by waiting most gap pause self.new) ≡ (hearing id bytes.now (machine_by waiting most gap pause self.old)).1 }
-        ensures law { Carries (machine_by waiting most gap pause self.old) (hearing_steps id bytes.now) (machine_by waiting most gap pause self.new) }
+        ensures answer { result ≡ (hearing id bytes.now (machine_by P.waiting P.most P.gap P.pause self.old)).0 }
+        ensures state { (machine_by P.waiting P.most P.gap P.pause self.new) ≡ (hearing id bytes.now (machine_by P.waiting P.most P.gap P.pause self.old)).1 }
+        ensures law { Carries (machine_by P.waiting P.most P.gap P.pause self.old) (hearing_steps id bytes.now) (machine_by P.waiting P.most P.gap P.pause self.new) }
     {
         let Ok(frame) = Frame::new(id, bytes) else {
             return Err(Refusal::NoFrame);
@@ -62,8 +62,8 @@ impl<P: Port> Master<P> {
 
     // A millisecond went by, for the slaves and for the port.
     pub fn tick(&mut self)
-        ensures state { (machine_by waiting most gap pause self.new) ≡ after pass (machine_by waiting most gap pause self.old) }
-        ensures law { Carries (machine_by waiting most gap pause self.old) (step_of pass (machine_by waiting most gap pause self.old) ∷ []) (machine_by waiting most gap pause self.new) }
+        ensures state { (machine_by P.waiting P.most P.gap P.pause self.new) ≡ after pass (machine_by P.waiting P.most P.gap P.pause self.old) }
+        ensures law { Carries (machine_by P.waiting P.most P.gap P.pause self.old) (step_of pass (machine_by P.waiting P.most P.gap P.pause self.old) ∷ []) (machine_by P.waiting P.most P.gap P.pause self.new) }
     {
         self.net.tick();
         self.port.tick();
@@ -72,9 +72,9 @@ impl<P: Port> Master<P> {
     // Puts the frame that is due in the port. Refused: 12 if the master is halted, else 13 if something is due and the
     // port has no room.
     pub fn work(&mut self) -> Result<Worked, Refusal>
-        ensures answer { result ≡ worked_by (works_on (machine_by waiting most gap pause self.old)).0 }
-        ensures state { (machine_by waiting most gap pause self.new) ≡ after work (machine_by waiting most gap pause self.old) }
-        ensures law { Carries (machine_by waiting most gap pause self.old) (step_of work (machine_by waiting most gap pause self.old) ∷ []) (machine_by waiting most gap pause self.new) }
+        ensures answer { result ≡ worked_by (works_on (machine_by P.waiting P.most P.gap P.pause self.old)).0 }
+        ensures state { (machine_by P.waiting P.most P.gap P.pause self.new) ≡ after work (machine_by P.waiting P.most P.gap P.pause self.old) }
+        ensures law { Carries (machine_by P.waiting P.most P.gap P.pause self.old) (step_of work (machine_by P.waiting P.most P.gap P.pause self.old) ∷ []) (machine_by P.waiting P.most P.gap P.pause self.new) }
     {
         if self.net.is_halted() {
             return Err(Refusal::Halted);
@@ -93,17 +93,17 @@ impl<P: Port> Master<P> {
 
     // The frame that goes to the bus next, unless the port holds it back.
     pub fn take(&mut self) -> Option<Frame>
-        ensures answer { result ≡ given (waiting self.old.port) (pause self.old.port) }
-        ensures state { (machine_by waiting most gap pause self.new) ≡ after take (machine_by waiting most gap pause self.old) }
-        ensures law { Carries (machine_by waiting most gap pause self.old) (takes (option_map content_of result) ∷ []) (machine_by waiting most gap pause self.new) }
+        ensures answer { result ≡ given (P.waiting self.old.port) (P.pause self.old.port) }
+        ensures state { (machine_by P.waiting P.most P.gap P.pause self.new) ≡ after take (machine_by P.waiting P.most P.gap P.pause self.old) }
+        ensures law { Carries (machine_by P.waiting P.most P.gap P.pause self.old) (takes (option_map content_of result) ∷ []) (machine_by P.waiting P.most P.gap P.pause self.new) }
     {
         self.port.take()
     }
 
     // Any of the calls that can change something.
     pub(crate) fn answer(&mut self, call: Call) -> Answer
-        ensures seen { seen_by call result ≡ seen_at call (machine_by waiting most gap pause self.old) }
-        ensures state { (machine_by waiting most gap pause self.new) ≡ after (called call) (machine_by waiting most gap pause self.old) }
+        ensures seen { seen_by call result ≡ seen_at call (machine_by P.waiting P.most P.gap P.pause self.old) }
+        ensures state { (machine_by P.waiting P.most P.gap P.pause self.new) ≡ after (called call) (machine_by P.waiting P.most P.gap P.pause self.old) }
     {
         match call {
             Call::Heard(frame) => Answer::Heard(self.hear(&frame)),
@@ -118,22 +118,22 @@ impl<P: Port> Master<P> {
 
     // Whether every listed slave is cleared: the lamp is green.
     pub fn go(&self) -> bool
-        ensures answer { result ≡ going (machine_by waiting most gap pause self.now).net }
-        ensures law { Tells (machine_by waiting most gap pause self.now) result }
+        ensures answer { result ≡ going (machine_by P.waiting P.most P.gap P.pause self.now).net }
+        ensures law { Tells (machine_by P.waiting P.most P.gap P.pause self.now) result }
     {
         self.net.go()
     }
 
     // Whether the master is halted. It stays so, and only a new one starts the network again.
     pub fn halted(&self) -> bool
-        ensures { result ≡ is_halted (machine_by waiting most gap pause self.now).net.phase }
+        ensures { result ≡ is_halted (machine_by P.waiting P.most P.gap P.pause self.now).net.phase }
     {
         self.net.is_halted()
     }
 
     // The result of a node, if it has one yet. Refused: 10.
     pub fn result(&self, node: u8) -> Result<Option<Letter>, Refusal>
-        ensures { result ≡ asked node (machine_by waiting most gap pause self.now).net }
+        ensures { result ≡ asked node (machine_by P.waiting P.most P.gap P.pause self.now).net }
     {
         if node == 0 || node > 127 {
             return Err(Refusal::NoNode);
@@ -143,7 +143,7 @@ impl<P: Port> Master<P> {
 
     // The sheet that the master was made from.
     pub fn sheet(&self) -> &Sheet
-        ensures { lines_of result.now ≡ (machine_by waiting most gap pause self.now).net.lines }
+        ensures { lines_of result.now ≡ (machine_by P.waiting P.most P.gap P.pause self.now).net.lines }
     {
         self.net.sheet()
     }

@@ -22,10 +22,10 @@ pub struct Session<P> {
 // written beside them.
 pub fn run_session<P: Port>(sheet: Sheet, port: P, row: &mut [Exchange]) -> Session<P>
     ensures calls { map call_of row.new ≡ map call_of row.old }
-    ensures answers { map seen_of row.new ≡ seen_all (map call_of row.old) (fresh_machine (lines_of sheet) (port_by waiting most gap pause port)) }
-    ensures state { machine_by waiting most gap pause result.master ≡ after_all (map call_of row.old) (fresh_machine (lines_of sheet) (port_by waiting most gap pause port)) }
-    ensures trace { trace_in (most port) (map content_of (waiting port)) (map seen_of row.new) (map content_of (waiting result.master.port)) ≡ steps_all (map call_of row.old) (fresh_machine (lines_of sheet) (port_by waiting most gap pause port)) }
-    ensures stands { StandsFrom (lines_of sheet) (map content_of (waiting port)) (trace_in (most port) (map content_of (waiting port)) (map seen_of row.new) (map content_of (waiting result.master.port))) (map content_of (waiting result.master.port)) result.go }
+    ensures answers { map seen_of row.new ≡ seen_all (map call_of row.old) (fresh_machine (lines_of sheet) (port_by P.waiting P.most P.gap P.pause port)) }
+    ensures state { machine_by P.waiting P.most P.gap P.pause result.master ≡ after_all (map call_of row.old) (fresh_machine (lines_of sheet) (port_by P.waiting P.most P.gap P.pause port)) }
+    ensures trace { trace_in (P.most port) (map content_of (P.waiting port)) (map seen_of row.new) (map content_of (P.waiting result.master.port)) ≡ steps_all (map call_of row.old) (fresh_machine (lines_of sheet) (port_by P.waiting P.most P.gap P.pause port)) }
+    ensures stands { StandsFrom (lines_of sheet) (map content_of (P.waiting port)) (trace_in (P.most port) (map content_of (P.waiting port)) (map seen_of row.new) (map content_of (P.waiting result.master.port))) (map content_of (P.waiting result.master.port)) result.go }
 {
     let mut master = Master::new(sheet, port);
     for place in 0..row.len() {

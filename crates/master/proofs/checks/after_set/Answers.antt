@@ -1,4 +1,4 @@
-use Rattle.std.proofs.Common.{◌≡◌, ◌+◌, ◌≤◌, map, length, take, sym, ◌∙◌, arith, length-take}
+use Rattle.std.proofs.Common.{◌+◌, ◌≤◌, map, length, take, sym, ◌∙◌, arith, length-take}
 use lib.ListN.{length-map}
 use Rattle.std.proofs.lemmas.Bool.{cond-false, le-ltb}
 use Rattle.sheet.specs.Views.{set_of}

@@ -1,4 +1,4 @@
-use Rattle.std.proofs.Common.{◌≡◌, ◌<◌, length, vec_items, sym, ◌∙◌, arith}
+use Rattle.std.proofs.Common.{◌<◌, length, vec_items, arith}
 use lib.ListN.{length-map}
 use Rattle.sheet.specs.Views.{slave_of}
 use Rattle.master.proofs.Walking.{slave_there}

@@ -1,4 +1,4 @@
-use Rattle.std.proofs.Common.{◌≡◌, ◌<◌, length, get_or, sym, ap, ◌∙◌, arith}
+use Rattle.std.proofs.Common.{◌<◌, length, get_or, sym, ap, ◌∙◌, arith}
 use Rattle.master.specs.Network.{State, with_entries}
 use Rattle.master.specs.Table.{applied}
 use Rattle.master.specs.Views.{view, listed, blank}

@@ -1,4 +1,4 @@
-use Rattle.std.proofs.Common.{◌≡◌, ◌<◌, true, false, length, sym, ◌∙◌, arith}
+use Rattle.std.proofs.Common.{◌<◌, length, sym, ◌∙◌, arith}
 use Rattle.master.specs.Views.{listed}
 use Rattle.master.proofs.Walking.{count_yes, count_no, count_all}
 use Rattle.master.proofs.network.Network.count.Goals as goal

@@ -1,4 +1,4 @@
-use Rattle.std.proofs.Common.{◌≡◌, Some, None, sym, ap, ◌∙◌, arith}
+use Rattle.std.proofs.Common.{Some, None, sym, ap, ◌∙◌}
 use Rattle.sheet.specs.Views.{slave_of}
 use Rattle.master.specs.declared.types.Entry.{Entry}
 use Rattle.master.specs.Step.{duty_of}

@@ -1,4 +1,4 @@
-use Rattle.std.proofs.Common.{◌≡◌, sym, ◌∙◌, arith}
+use Rattle.std.proofs.Common.{sym, ◌∙◌, arith}
 use Rattle.master.specs.declared.types.Quality.TheVariants as quality
 use Rattle.master.specs.Views.{view}
 use Rattle.master.proofs.Planning.{counted_few, rest_due, next_some, next_none}

@@ -1,4 +1,4 @@
-use Rattle.std.proofs.Common.{◌≡◌, ◌%◌, ◌<◌, length, get_or, sym, ◌∙◌, arith}
+use Rattle.std.proofs.Common.{◌%◌, ◌<◌, length, get_or, sym, ◌∙◌, arith}
 use Rattle.sheet.proofs.Keeping.{keeps_to}
 use Rattle.sheet.specs.Sheets.{lines_of}
 use Rattle.sheet.specs.Views.{slave_of}

@@ -1,7 +1,7 @@
-use Rattle.std.proofs.Common.{◌≡◌, ◌+◌, ◌<◌, min, true, length, get_or, sym, refl, ap, ◌∙◌, arith}
+use Rattle.std.proofs.Common.{◌<◌, length, get_or, sym, ap, ◌∙◌, arith}
 use Rattle.sheet.specs.Format.{SheetLines}
 use Rattle.master.specs.declared.types.Input.TheVariants as input
-use Rattle.master.specs.Network.{State, is_running, step_in, with_clock}
+use Rattle.master.specs.Network.{State, step_in, with_clock}
 use Rattle.master.specs.Views.{view, listed, blank}
 use Rattle.master.proofs.Ticking.{step_lines, tick_more, tick_stop, tick_done, ticked_by}
 use Rattle.master.proofs.network.Network.tick.Goals as goal

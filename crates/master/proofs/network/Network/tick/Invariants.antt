@@ -1,5 +1,5 @@
-use Rattle.std.proofs.Common.{◌≡◌, true, drop}
-use Rattle.master.specs.Network.{is_running, tick_from}
+use Rattle.std.proofs.Common.{◌≡◌, drop}
+use Rattle.master.specs.Network.{tick_from}
 use Rattle.master.specs.Views.{view, listed}
 use Rattle.master.proofs.network.Network.tick.Given as goal
 

@@ -1,8 +1,8 @@
-use Rattle.std.proofs.Common.{◌≡◌, [], sym, ap, subst}
+use Rattle.std.proofs.Common.{◌≡◌, [], sym, subst}
 use Rattle.sheet.specs.Sheets.{lines_of}
-use Rattle.master.specs.Masters.{port_by, machine_by}
+use Rattle.master.specs.Masters.{port_by}
 use Rattle.master.specs.Network.{State}
-use Rattle.master.specs.FromPort.{fresh_machine, LeadsFrom, fresh}
+use Rattle.master.specs.FromPort.{LeadsFrom, fresh}
 use Rattle.master.specs.Session.{PortState, Machine}
 use Rattle.master.proofs.nmt_master.Master.new.Goals as goal
 
