@@ -11,7 +11,7 @@ loop-rest-preserved c =
     let room = c.loop-rest.invariant.1 in
     let full = c.loop-rest.invariant.2 in
     let inside : c.loop-rest.n < length c.loop-rest.bytes = omega (arith, room, full) in (
-      read_pair c.loop-rest.bytes c.loop-rest.rest.now c.loop-rest.n c.in-ok-byte.byte two inside c.in-ok-byte.ensures.value ∙ c.loop-rest.invariant.0,
+      read_pair c.loop-rest.bytes c.loop-rest.rest.now c.loop-rest.n c.in_ok-byte.byte two inside c.in_ok-byte.ensures.value ∙ c.loop-rest.invariant.0,
       simp (length-take, length-drop) (omega (arith, room, two)),
       simp length-set full,
     )

@@ -1,10 +1,10 @@
 use Rattle.std.proofs.Common.{◌∙◌, arith}
-use Rattle.master.specs.declared.calls.Call.TheVariants as call
+use Rattle.master.specs.Session.{pass}
 use Rattle.script.proofs.Playing.{once_more, at_last}
 use Rattle.script.proofs.session.tick_times.Goals as goal
 
 pub loop-i-preserved : goal.loop-i-preserved
-loop-i-preserved g c = once_more call.Tick c.args.count c.loop-i.-i _ _ (omega arith) c.tick.ensures.state ∙ c.loop-i.invariant
+loop-i-preserved g c = once_more pass c.args.count c.loop-i._i _ _ (omega arith) c.tick.ensures.state ∙ c.loop-i.invariant
 
 pub returns : goal.returns
-returns g c = at_last call.Tick c.args.count c.loop-i.-i _ _ (omega arith) c.loop-i.invariant
+returns g c = at_last pass c.args.count c.loop-i._i _ _ (omega arith) c.loop-i.invariant

@@ -1,7 +1,7 @@
 use Rattle.std.proofs.Common.{◌∙◌, arith}
-use Rattle.master.specs.declared.calls.Call.TheVariants as call
+use Rattle.master.specs.Session.{work}
 use Rattle.script.proofs.Playing.{once_more, at_last}
 use Rattle.script.proofs.session.work_times.Goals as goal
 
 pub returns : goal.returns
-returns g c = at_last call.Work c.args.count c.loop-i.-i _ _ (omega arith) c.loop-i.invariant
+returns g c = at_last work c.args.count c.loop-i._i _ _ (omega arith) c.loop-i.invariant
