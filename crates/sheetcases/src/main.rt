@@ -1,5 +1,7 @@
 // Reads each sheet that the file `cases` names, and says what came: the fault with its sentence, or how much the sheet holds and
 // how long its text is when it is written again.
+#![tactic(auto)]
+
 use sheet::Sheet;
 use std::fs;
 use std::io::{BufWriter, Write};

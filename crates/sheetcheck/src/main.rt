@@ -1,4 +1,6 @@
 // Says whether an assignment sheet is right; if it is, what it assigns, and if not, which line is wrong and why.
+#![tactic(auto)]
+
 use sheet::{Fault, Sheet, Slave};
 use std::io::{BufWriter, Write};
 use std::{env, fs};
