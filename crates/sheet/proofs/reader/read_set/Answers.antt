@@ -1,5 +1,5 @@
 use Rattle.std.proofs.Common.{◌^◌, ◌<◌, arith}
-use native.Mathlib.Nat.{one-le-pow}
+use Rattle.std.proofs.Math.Nat.{one-le-pow}
 use Rattle.sheet.proofs.reader.read_set.Goals as goal
 
 pub invariant_of-result : goal.invariant_of-result

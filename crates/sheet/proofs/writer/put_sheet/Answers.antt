@@ -1,6 +1,6 @@
 use Rattle.std.proofs.Common.{◌≡◌, map, length, vec_items, sym, ap, ◌∙◌}
 use Rattle.sheet.specs.declared.keys.Key.TheVariants.{Slaves}
-use lib.ListN.{length-map}
+use Rattle.std.proofs.lemmas.List.{length-map}
 use Rattle.std.specs.List.{flat_map}
 use Rattle.sheet.specs.Format.{slave_text}
 use Rattle.sheet.specs.Views.{slave_of, slaves_of}
