@@ -1,8 +1,8 @@
 -- What a frame's line says, from its parts.
-use Rattle.std.proofs.Common.{◌≡◌, ℕ, List, [], Some, None, Option, sym, refl, ap, ◌∙◌}
+use Rattle.std.proofs.Common.{◌≡◌, ℕ, List, [], Some, None, Option, sym, ap, ◌∙◌}
 use Rattle.std.specs.Option.{option_map}
 use Rattle.sheet.specs.Lines.{cut_at}
-use Rattle.script.specs.Sessions.{Order, heard, and_then, number_in, kept_in, frame_in, parts}
+use Rattle.script.specs.Sessions.{heard, and_then, number_in, kept_in, frame_in, parts}
 use Rattle.script.proofs.Parting.{parts_first, parts_only}
 
 whole : (v : List ℕ) (r : List ℕ × List ℕ) → Some r ≡ cut_at 44 v → and_then (number_in r.0) (λ id. option_map (λ bs. heard id bs) (kept_in (parts r.1))) ≡ frame_in (parts v)

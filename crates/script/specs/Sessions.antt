@@ -1,5 +1,5 @@
 -- What the text of a session says.
-use Rattle.std.specs.Prelude.{ℕ, cond, ◌&&◌, List, [], ◌∷◌, take, Some, None, codes, Option, ◌==◌, nat_lt}
+use Rattle.std.specs.Prelude.{ℕ, cond, List, [], ◌∷◌, take, Some, None, codes, Option, ◌==◌, nat_lt}
 use Rattle.std.specs.Option.{option_map, unwrap_or}
 use Rattle.std.specs.Str.{bytes_eq}
 use Rattle.sheet.specs.Decimal.{numeral, value_on}

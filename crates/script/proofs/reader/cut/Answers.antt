@@ -1,4 +1,4 @@
-use Rattle.std.proofs.Common.{◌≡◌, sym, arith}
+use Rattle.std.proofs.Common.{sym, arith}
 use Rattle.sheet.proofs.Cutting.{cut_none}
 use Rattle.script.proofs.Parting.{cut_parts}
 use Rattle.script.proofs.reader.cut.Goals as goal
