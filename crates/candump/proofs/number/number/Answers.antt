@@ -5,13 +5,13 @@ use Rattle.std.specs.Char.{digit_value}
 use Rattle.candump.specs.Logs.{number_on}
 use Rattle.candump.proofs.Digits.{read_digit, below_power, power_fits, in_number, no_number}
 use Rattle.candump.proofs.number.number.Goals as goal
-use Rattle.candump.proofs.number.number.Goals.{In-ok-digit, at·mul-n, at·add-n, at·loop-b-again}
+use Rattle.candump.proofs.number.number.Goals.{In_ok-digit}
 
 pub loop-b-init : goal.loop-b-init
 loop-b-init c = (refl, omega (arith, pow-zero c.args.radix))
 
 -- what the number becomes with the digit of this turn, and how far it can go
-grown : (c : In-ok-digit) → (c.loop-b.n * c.args.radix + c.in_ok-digit.digit < c.args.radix ^ (c.loop-b.b-index + 1)) × (c.loop-b.n * c.args.radix + c.in_ok-digit.digit < 1099511627776)
+grown : (c : In_ok-digit) → (c.loop-b.n * c.args.radix + c.in_ok-digit.digit < c.args.radix ^ (c.loop-b.b-index + 1)) × (c.loop-b.n * c.args.radix + c.in_ok-digit.digit < 1099511627776)
 grown c =
     let d = c.in_ok-digit.ensures.value in
     let power = below_power c.args.radix c.loop-b.n c.in_ok-digit.digit c.loop-b.b-index c.loop-b.invariant.1 (omega (arith, d.0, d.1)) in
@@ -31,20 +31,20 @@ returns-in_err-digit c =
 
 pub overflow_mul-n : goal.overflow_mul-n
 overflow_mul-n c =
-    let g = grown (at·mul-n c).In-ok-digit in
+    let g = grown (goal.at.overflow_mul-n c).In_ok-digit in
     let same : c.loop-b.n * c.from-in-loop-b.result ≡ c.loop-b.n * c.args.radix = ap (λ r. c.loop-b.n * r) c.from-in-loop-b.ensures in
     omega (arith, g.1, same)
 
 pub overflow_add-n : goal.overflow_add-n
 overflow_add-n c =
-    let g = grown (at·add-n c).In-ok-digit in
+    let g = grown (goal.at.overflow_add-n c).In_ok-digit in
     let same : c.loop-b.n * c.from-in-loop-b.result ≡ c.loop-b.n * c.args.radix = ap (λ r. c.loop-b.n * r) c.from-in-loop-b.ensures in
     omega (arith, g.1, same, c.from-in-loop-b-2.ensures)
 
 pub loop-b-preserved : goal.loop-b-preserved
 loop-b-preserved c =
     let d = c.in_ok-digit.ensures.value in
-    let g = grown (at·loop-b-again c).In-ok-digit in
+    let g = grown (goal.at.loop-b-preserved c).In_ok-digit in
     let same : c.loop-b.n * c.from-in-loop-b.result ≡ c.loop-b.n * c.args.radix = ap (λ r. c.loop-b.n * r) c.from-in-loop-b.ensures in
     let sum : c.loop-b.n * c.from-in-loop-b.result + c.from-in-loop-b-2.result ≡ c.loop-b.n * c.args.radix + c.in_ok-digit.digit = omega (arith, same, c.from-in-loop-b-2.ensures) in
     let lt : digit_value (get_or c.args.digits.now c.loop-b.b-index 0) < c.args.radix = subst (λ x. digit_value x < c.args.radix) c.from.ensures d.0 in
