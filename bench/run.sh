@@ -10,13 +10,13 @@ sessions=${1:-500}
 
 mkdir -p "$root/target"
 log=$root/target/measure.log
-if ! (cd "$root" && rt staticlib measure) > "$log" 2>&1; then
+if ! (cd "$root/crates/measure" && rt lib) > "$log" 2>&1; then
     echo "run.sh: the library could not be built; $log says why" >&2
     exit 1
 fi
-export MEASURE_LIB=$root/target/staticlib/libmeasure.a
-RATTLE_LIB=$(dirname "$(dirname "$(rt doc)")")/lib/librattle_c.a
-export RATTLE_LIB
+export MEASURE_LIB=$root/crates/measure/out/libmeasure.a
+RATTLE_C=$(dirname "$(rt doc)")/c
+export RATTLE_C
 (cd "$here/times" && cargo build --release --offline --quiet)
 
 scratch=$(mktemp -d)

@@ -7,7 +7,7 @@ ghost use Rattle.sheet.specs.Sheets.{lines_of};
 ghost use Rattle.master.specs.FromPort.{fresh_machine, LeadsFrom, Carries, Tells};
 ghost use Rattle.master.specs.Masters.{port_by, machine_by, use_of, called, hearing, hearing_steps, worked_by, asked};
 ghost use Rattle.master.specs.Network.{heard_by, going, is_halted};
-ghost use Rattle.master.specs.Rows.{seen_by, seen_at};
+ghost use Rattle.master.specs.Rows.{shown_by, shown_at};
 ghost use Rattle.master.specs.Session.{pass, work, take, after, step_of, works_on, takes};
 ghost use Rattle.master.specs.Views.{view};
 
@@ -102,7 +102,7 @@ impl<P: Port> Master<P> {
 
     // Any of the calls that can change something.
     pub(crate) fn answer(&mut self, call: Call) -> Answer
-        ensures seen { seen_by call result ≡ seen_at call (machine_by P.waiting P.most P.gap P.pause self.old) }
+        ensures seen { shown_by call result ≡ shown_at call (machine_by P.waiting P.most P.gap P.pause self.old) }
         ensures state { (machine_by P.waiting P.most P.gap P.pause self.new) ≡ after (called call) (machine_by P.waiting P.most P.gap P.pause self.old) }
     {
         match call {

@@ -3,7 +3,7 @@ use Rattle.sheet.proofs.Keeping.{keeps_to}
 use Rattle.sheet.specs.Format.{SheetLines}
 use Rattle.sheet.specs.Sheets.{lines_of}
 use Rattle.master.specs.Masters.{port_by, machine_by}
-use Rattle.master.specs.Rows.{call_of, seen_of}
+use Rattle.master.specs.Rows.{call_of, shown_of}
 use Rattle.master.specs.FromPort.{fresh_machine}
 use Rattle.master.specs.Session.{PortState, Machine}
 use Rattle.master.proofs.Rowing.{Running, run_begins, run_goes_on, run_ends, row_trace, row_stands}
@@ -29,6 +29,6 @@ returns g c =
       calls = r.calls;
       answers = r.answers;
       state = r.state;
-      trace = row_trace ls (keeps_to ls c.args.sheet.kept) p (map call_of row) (map seen_of c.loop-place.row) n r.answers r.state;
-      stands = row_stands ls (keeps_to ls c.args.sheet.kept) p (map call_of row) (map seen_of c.loop-place.row) n c.go-go.result r.answers r.state c.go-go.ensures.answer;
+      trace = row_trace ls (keeps_to ls c.args.sheet.kept) p (map call_of row) (map shown_of c.loop-place.row) n r.answers r.state;
+      stands = row_stands ls (keeps_to ls c.args.sheet.kept) p (map call_of row) (map shown_of c.loop-place.row) n c.go-go.result r.answers r.state c.go-go.ensures.answer;
     }
