@@ -28,9 +28,11 @@ with_net s m = record { net = s; port = m.port }
 abbrev pub with_port : PortState → Machine → Machine
 with_port p m = record { net = m.net; port = p }
 
+-- a frame comes at the end of the list
 abbrev pub enters : Content → PortState → PortState
 enters f p = record { waiting = p.waiting ++ f ∷ []; most = p.most; gap = p.gap; pause = p.pause }
 
+-- a tick: a pause above 0 is one less
 abbrev pub pauses : PortState → PortState
 pauses p = record { waiting = p.waiting; most = p.most; gap = p.gap; pause = p.pause - 1 }
 
@@ -56,6 +58,8 @@ pub data Worked : Type 0 where
   idle : Worked
   refused : ℕ → Worked
 
+-- A due frame is put if fewer wait than can, and its plan is carried out; else the work is refused and nothing changes. With nothing
+-- due, a sweep that has no node left is over.
 abbrev pub placing : Option Content → Machine → Worked × Machine
 placing None m = (idle, with_net (carried_out plan.Nothing m.net) m)
 placing (Some f) m =
@@ -74,12 +78,14 @@ pub data Step : Type 0 where
   works : Bool → Worked → Step
   takes : Option Content → Step
 
+-- What a call leaves. A tick ticks the slaves and the port; a take is the port's alone.
 abbrev pub after : Call → Machine → Machine
 after (hear f) m = with_net (heard_by f m.net).1 m
 after pass m = record { net = ticked m.net; port = pauses m.port }
 after work m = (works_on m).1
 after take m = with_port (leaves m.port.waiting m.port).1 m
 
+-- what a call adds to the trace
 abbrev pub step_of : Call → Machine → Step
 step_of (hear f) m = hears f
 step_of pass m = passes
