@@ -6,7 +6,8 @@ usage: python3 tools/respell.py [--dry]        at the top, once, after the kit's
 It reads which words the files of specs/ and proofs/ bind (definitions, lemmas, constructors, fields, parameters, locals), and turns each
 that is spelled with a hyphen or a capital inside, wherever it stands in .antt files, in the ghost parts of .rt files, and between
 backticks in README.md and docs/. A word that only a proof's goals name (after 'c.', 'l.' or 'goal.', and the answers themselves) is made
-by Rattle from the code, and stays. It stops, and writes nothing, where two words would fall together.
+by Rattle from the code, and stays. A line 'together:' names each two words that are spelled alike from now on, and the files that have
+both; OTHER gives a lemma another name where one file would bring in both.
 """
 
 import collections
@@ -25,7 +26,6 @@ BOUND = [
 ]
 GIVEN = re.compile(r"\bgoal\.(?P<name>[\w'-]+)")
 LABEL = re.compile(r"\b(?:requires|ensures)\*? ([a-z][a-z0-9]*(?:_[a-z0-9]+)+) \{")
-
 
 # Lemmas that would fall together with a definition.
 OTHER = {"is-frame": "frame_fits", "on-beat": "beat_is_heard", "on-reply": "reply_is_heard", "on-tick": "tick_passes"}
