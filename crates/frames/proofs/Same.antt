@@ -1,12 +1,19 @@
 -- Frames of the same content are the same value. Assumes nothing.
-use Rattle.std.proofs.Common.{◌≡◌, ℕ, ◌+◌, ◌-◌, ◌≤◌, min, List, length, take, sym, ap, ◌∙◌, arith, length-append, length-take}
+use Rattle.std.specs.Prelude.{◌==◌}
+use Rattle.std.proofs.Common.{◌≡◌, true, refl, subst, ℕ, ◌+◌, ◌-◌, ◌≤◌, min, List, length, take, sym, ap, ◌∙◌, arith, length-append, length-take}
 use mathlib.Core.HLevel.{is_prop→PathP}
 use mathlib.Core.List.{is_set}
 use native.Mathlib.Nat.{ℕ_set}
 use native.Mathlib.Bridge.{le_prop}
 use lib.ListN.{length-replicate}
 use Rattle.frames.specs.Bytes.{padded}
+use Rattle.std.proofs.lemmas.Bool.{eqb-true}
+use Rattle.std.proofs.lemmas.Bool.Decides.{Decides-eqb}
+use Rattle.std.proofs.lemmas.Slice.Eq.{slice_eq-Decides}
+use Rattle.std.specs.Cmp.{first_so, second_so}
+use Rattle.std.specs.Cmp.Lexicographic.{pointwise}
 use Rattle.frames.specs.Contents.{content_of}
+use Rattle.frames.specs.Fields.{fields_agree, fields_agree_equiv, FieldsDecide}
 use Rattle.frames.specs.declared.frame.Frame.{Frame}
 
 length_padded : (xs : List ℕ) → length (padded xs) ≡ length xs + (8 - length xs)
@@ -37,3 +44,13 @@ same_value f g e =
     same_fields f g (ap (λ c. c.id) e)
     (sym (counted f) ∙ ap length datas ∙ counted g)
     (sym f.rest_ok ∙ ap padded datas ∙ g.rest_ok)
+
+-- the comparison of the fields decides it
+pub fields_decide : FieldsDecide
+fields_decide f g = (
+  λ e.
+      let rest = second_so (f.id == g.id) _ e in
+      let places = slice_eq-Decides Decides-eqb f.bytes g.bytes (pointwise ◌==◌ f.bytes g.bytes) refl in
+      same_fields f g (eqb-true f.id g.id (first_so (f.id == g.id) _ e)) (eqb-true f.len g.len (first_so (f.len == g.len) _ rest)) (places.0 (second_so (f.len == g.len) _ rest)),
+  λ e. subst (λ h. fields_agree f h ≡ true) e (fields_agree_equiv.refl f),
+)

@@ -6,7 +6,7 @@ use super::port::Port;
 // Hands frames on from one port to another, in their order, until one of the two declines. None is lost: what waits
 // there and then here is what waited there and then here before.
 pub fn hand_over<P: Port, Q: Port>(from: &mut P, to: &mut Q)
-    ensures handed { ◌≡◌ {A = Handed} (record { from = P.Port.waiting from.exit.now; pause = P.Port.pause from.exit.now; to = Q.Port.waiting to.new }) (handed (P.Port.waiting from.entry.now) (P.Port.pause from.entry.now) (P.Port.gap from.entry.now) (Q.Port.most to.old) (Q.Port.waiting to.old)) }
+    ensures handed { ◌≡◌ {A = Handed} (record { from = P.Port.waiting from.new; pause = P.Port.pause from.new; to = Q.Port.waiting to.new }) (handed (P.Port.waiting from.old) (P.Port.pause from.old) (P.Port.gap from.old) (Q.Port.most to.old) (Q.Port.waiting to.old)) }
     ensures order { Q.Port.waiting to.new ++ P.Port.waiting from.new ≡ Q.Port.waiting to.old ++ P.Port.waiting from.old }
     ensures from_most { P.Port.most from.new ≡ P.Port.most from.old }
     ensures from_gap { P.Port.gap from.new ≡ P.Port.gap from.old }

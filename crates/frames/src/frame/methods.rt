@@ -1,7 +1,7 @@
 ghost use Rattle.std.specs.Prelude.{◌≡◌, ◌%◌, ◌≤◌, length, Decides};
 ghost use Rattle.std.specs.Cmp.{partial_equiv_from_equiv};
 ghost use Rattle.frames.specs.Contents.{Made, content_of};
-ghost use Rattle.frames.specs.Fields.{fields_agree, fields_agree_equiv};
+ghost use Rattle.frames.specs.Fields.{fields_agree, fields_agree_equiv, FieldsDecide};
 
 use super::Frame;
 use crate::refusal::Refusal;
@@ -53,9 +53,11 @@ impl PartialEq for Frame {
 
     ghost laws = { partial_equiv_from_equiv fields_agree_equiv };
 
+    #[tactic(auto, using(crate::proofs::Same::fields_decide))]
     fn eq(&self, other: &Frame) -> bool
         ensures fields { result ≡ fields_agree self.now other.now }
         ensures same { Decides result (self.now ≡ other.now) }
+        ensures law { FieldsDecide }
     {
         if self.id != other.id || self.len != other.len {
             return false;
