@@ -35,20 +35,13 @@ impl Port for TransmitBuffer {
     ghost within = { λ p. one_at_most p.frame };
 
     fn room(&self) -> usize {
-        match self.frame {
-            Some(_) => 0,
-            None => 1,
-        }
+        usize::from(self.frame.is_none())
     }
 
     fn put(&mut self, frame: Frame) -> bool {
-        match self.frame {
-            Some(_) => false,
-            None => {
-                self.frame = Some(frame);
-                true
-            }
-        }
+        let free = self.frame.is_none();
+        self.frame.get_or_insert(frame);
+        free
     }
 
     fn first(&self) -> Option<Frame> {
@@ -56,9 +49,7 @@ impl Port for TransmitBuffer {
     }
 
     fn take(&mut self) -> Option<Frame> {
-        let first = self.frame;
-        self.frame = None;
-        first
+        self.frame.take()
     }
 
     fn tick(&mut self) {}

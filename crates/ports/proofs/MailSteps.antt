@@ -113,13 +113,13 @@ rest_after (x ∷ y ∷ xs) later h e = absurd (omega arith)
 
 module _ (ss : List Slot) (fair : Fair ss) where
   none_later : at_turn 1 ss ≡ [] → at_turn 2 ss ++ at_turn 3 ss ≡ []
-  none_later e = nil_from_length _ (simp length-append (omega (arith, ap length e, fair.second, fair.third)))
+  none_later e = nil_from_length _ (simp length-append (omega (arith, ap length e)))
 
   pub first_waits : option_map (λ (s : Slot). s.frame) (find (λ s. s.turn == 1) ss) ≡ first_of (ordered ss)
   first_waits = first_found ss (at_turn 2 ss ++ at_turn 3 ss) none_later
 
   none_past : at_turn 4 ss ≡ []
-  none_past = nil_from_length _ (omega (arith, counts ss, fair.turns))
+  none_past = nil_from_length _ (omega (arith, counts ss))
 
   pub nearer_rest : ordered (map nearer ss) ≡ rest_of (ordered ss)
   nearer_rest =
@@ -134,9 +134,9 @@ module _ (ss : List Slot) (fair : Fair ss) where
       let three = ap length (at_nearer 3 (omega arith) ss ∙ none_past) in
       let all : length (map nearer ss) ≡ length ss = length-map ss nearer in
       record {
-        turns = omega (arith, one, two, three, all, count_nearer ss, fair.turns);
-        first = omega (arith, one, fair.first, fair.second);
-        second = omega (arith, one, two, fair.third);
+        turns = omega (arith, one, two, three, all, count_nearer ss);
+        first = omega (arith, one);
+        second = omega (arith, one, two);
         third = omega (arith, two, three);
       }
 
@@ -167,16 +167,16 @@ module _ (ss : List Slot) (fair : Fair ss) (i : ℕ) (d : Slot) (f : Frame) (ins
     at_1 = at_after 1 n (omega arith) (λ e. nil_from_length _ (omega arith))
 
     at_2 : at_turn 2 (after n) ≡ at_turn 2 ss ++ cond (n + 1 == 2) (f ∷ []) []
-    at_2 = at_after 2 n (omega arith) (λ e. nil_from_length _ (omega (arith, fair.second, fair.third)))
+    at_2 = at_after 2 n (omega arith) (λ e. nil_from_length _ (omega arith))
 
     at_3 : at_turn 3 (after n) ≡ at_turn 3 ss ++ cond (n + 1 == 3) (f ∷ []) []
-    at_3 = at_after 3 n (omega arith) (λ e. nil_from_length _ (omega (arith, fair.first, fair.second, fair.third)))
+    at_3 = at_after 3 n (omega arith) (λ e. nil_from_length _ (omega arith))
 
   pub put_last : (n : ℕ) → n ≡ count 1 ss + (count 2 ss + count 3 ss) → n ≤ 2 → ordered (after n) ≡ ordered ss ++ f ∷ []
   put_last zero w h =
       join (at_1 0 w) (at_2 0 w) (at_3 0 w) ∙ last_first (at_turn 1 ss) (at_turn 2 ss) (at_turn 3 ss) f (nil_from_length _ (omega arith)) (nil_from_length _ (omega arith))
   put_last (suc zero) w h =
-      join (at_1 1 w) (at_2 1 w) (at_3 1 w) ∙ last_second (at_turn 1 ss) (at_turn 2 ss) (at_turn 3 ss) f (nil_from_length _ (omega (arith, fair.second, fair.third)))
+      join (at_1 1 w) (at_2 1 w) (at_3 1 w) ∙ last_second (at_turn 1 ss) (at_turn 2 ss) (at_turn 3 ss) f (nil_from_length _ (omega arith))
   put_last (suc (suc zero)) w h =
       join (at_1 2 w) (at_2 2 w) (at_3 2 w) ∙ last_third (at_turn 1 ss) (at_turn 2 ss) (at_turn 3 ss) f
   put_last (suc (suc (suc n))) w h = absurd (omega arith)
@@ -189,9 +189,9 @@ module _ (ss : List Slot) (fair : Fair ss) (i : ℕ) (d : Slot) (f : Frame) (ins
 
   fair_after : (n : ℕ) → n ≡ count 1 ss + (count 2 ss + count 3 ss) → n ≤ 2 → Counted n → Fair (after n)
   unfolding Counted
-  fair_after zero w h c = record { turns = omega (arith, fair.turns); first = omega arith; second = omega arith; third = omega arith }
-  fair_after (suc zero) w h c = record { turns = omega (arith, fair.turns); first = omega (arith, fair.first); second = omega (arith, fair.second, fair.third); third = omega (arith, fair.second, fair.third) }
-  fair_after (suc (suc zero)) w h c = record { turns = omega (arith, fair.turns); first = omega (arith, fair.first); second = omega (arith, fair.first, fair.second, fair.third); third = omega (arith, fair.first, fair.second, fair.third) }
+  fair_after zero w h c = record { turns = omega arith; first = omega arith; second = omega arith; third = omega arith }
+  fair_after (suc zero) w h c = record { turns = omega arith; first = omega arith; second = omega arith; third = omega arith }
+  fair_after (suc (suc zero)) w h c = record { turns = omega arith; first = omega arith; second = omega arith; third = omega arith }
   fair_after (suc (suc (suc n))) w h c = absurd (omega arith)
 
   pub put_fair : (n : ℕ) → n ≡ count 1 ss + (count 2 ss + count 3 ss) → n ≤ 2 → Fair (after n)
@@ -220,7 +220,7 @@ past i n e =
     elim (nat_lt i n) as (λ b. nat_lt i n ≡ b → cond b (Some i) None ≡ None → n ≤ i) [ true ↦ λ t e. absurd cc | false ↦ λ t e. grind (arith, nat_tests) ] refl e
 
 pub all_taken : (m : Mailbox) → length m.slots ≡ 3 → position (λ (s : Slot). s.turn == 0) m.slots ≡ None → length (mail_waiting m) ≡ 3
-all_taken m three e = omega (arith, none_free m.slots (past _ _ e), length_ordered m.slots, m.turns_ok)
+all_taken m three e = omega (arith, none_free m.slots (past _ _ e), length_ordered m.slots)
 
 pub count_free : (ss : List Slot) → count_by (λ (s : Slot). s.turn == 0) ss ≡ count 0 ss
 count_free ss = sym (length-map (with_turn 0 ss) (λ (s : Slot). s.frame) ∙ length-filter (λ (s : Slot). s.turn == 0) ss)
@@ -250,7 +250,7 @@ placed m three i found room is f =
     let used : ((n + 1) == 0) ≡ false = grind (arith, nat_tests) in
     let one = count_taken m.slots i y y at.0 used at.1 in
     let waits : n ≡ count 1 m.slots + (count 2 m.slots + count 3 m.slots) = omega (arith, mail_within m, length_ordered m.slots) in
-    let few : n ≤ 2 = omega (arith, m.turns_ok) in
+    let few : n ≤ 2 = omega arith in
     let free : (get_or m.slots i y).turn ≡ 0 = eqb-true _ _ at.1 in
     record {
       fair = put_fair m.slots (fair_of m) i y f at.0 free n waits few;
