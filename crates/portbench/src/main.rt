@@ -77,15 +77,6 @@ fn run<P: Port + Drop>(rt: &HostRuntime, name: &str, port: P) -> io::Result<()> 
     bench(rt, &mut row, port, &mut bus)
 }
 
-fn run_gapped<P: Port + Drop>(
-    rt: &HostRuntime,
-    name: &str,
-    port: P,
-    inhibit: u16,
-) -> io::Result<()> {
-    run(rt, name, GapPort::new(port, inhibit))
-}
-
 fn main(rt: HostRuntime) -> io::Result<()> {
     let blank = fixed_row()[0];
     let mut one = [blank; 1];
@@ -93,7 +84,8 @@ fn main(rt: HostRuntime) -> io::Result<()> {
     let mut many = [blank; 64];
     run(&rt, "ring of 64", Queue::new(&mut many).unwrap())?;
     run(&rt, "mailbox", Mailbox::new(blank))?;
-    let ring = Queue::new(&mut many).unwrap();
-    run_gapped(&rt, "gap of 2 over ring of 64", ring, 11)?;
-    run_gapped(&rt, "gap of 1 over mailbox", Mailbox::new(blank), 10)
+    let gapped = GapPort::new(Queue::new(&mut many).unwrap(), 11);
+    run(&rt, "gap of 2 over ring of 64", gapped)?;
+    let gapped = GapPort::new(Mailbox::new(blank), 10);
+    run(&rt, "gap of 1 over mailbox", gapped)
 }
