@@ -2,9 +2,11 @@ pub mod Codec
 pub mod Cursors
 pub mod Decimal
 pub mod Faults
+pub mod Few
 pub mod Format
 pub mod Keys
 pub mod Lines
+pub mod Pairs
 pub mod Reads
 pub mod Rules
 pub mod Sheets

@@ -4,8 +4,9 @@
 mod cursor;
 pub mod digits;
 pub mod faults;
+pub mod few;
 pub mod keys;
-mod line;
+pub mod line;
 pub mod model;
 mod reader;
 mod token;
@@ -13,7 +14,9 @@ mod writer;
 
 pub use digits::number;
 pub use faults::{DigitsFault, Fault, Layer, LineFault, TooShort};
+pub use few::Few;
 pub use keys::Key;
+pub use line::cut;
 pub use model::set::Set;
 pub use model::sets::Sets;
 pub use model::sheet::Sheet;

@@ -1,8 +1,19 @@
-// The token of the line at a place of the text.
+// A text that is cut, and the token of the line at a place of the text.
 ghost use Rattle.std.specs.Prelude.{◌≡◌, ◌≤◌, length};
+ghost use Rattle.std.specs.Option.{option_map};
+ghost use Rattle.sheet.specs.Lines.{cut_at};
+ghost use Rattle.sheet.specs.Pairs.{pair_of};
 ghost use Rattle.sheet.specs.Tokens.{Position, Cuts};
 
 use crate::token::Token;
+
+// What stands before the first `b`, and what after it; none if there is no `b`.
+pub fn cut(s: &[u8], b: u8) -> Option<(&[u8], &[u8])>
+    ensures { option_map pair_of result ≡ cut_at b s.now }
+{
+    let i = s.iter().position(|x| *x == b)?;
+    Some((&s[..i], &s[i + 1..]))
+}
 
 // Where `b` first stands in `s`.
 fn position(s: &[u8], b: u8) -> Option<usize>
