@@ -10,6 +10,5 @@ pub mod Pairs
 pub mod Reads
 pub mod Rules
 pub mod Sheets
-pub mod Tokens
 pub mod Views
 pub mod Writes

@@ -1,6 +1,7 @@
 // Assignment sheets: which slaves a master has, and how each is checked, set up and watched.
 #![tactic(auto)]
 
+mod before;
 mod cursor;
 pub mod digits;
 pub mod faults;
@@ -9,7 +10,6 @@ pub mod keys;
 pub mod line;
 pub mod model;
 mod reader;
-mod token;
 mod writer;
 
 pub use digits::number;
