@@ -7,6 +7,7 @@ use std::{env, fs};
 
 const DEFAULT_PATH: &str = "sheet.txt";
 
+// A function: a type of its own with a `Display` would say the same in more lines.
 fn yes_no(b: bool) -> &'static str {
     if b { "yes" } else { "no" }
 }
