@@ -40,22 +40,11 @@ impl<P: Port> Master<P> {
     // A fresh master: a sweep 82h is begun, and nobody has passed.
     pub fn new(sheet: Sheet, port: P) -> Master<P>
         ensures state { result ≡ fresh_machine (lines_of sheet) (port_by P.waiting P.most P.gap P.pause port) }
-        ensures law { LeadsFrom (lines_of sheet) (port_by P.waiting P.most P.gap P.pause port) [] (result) }
+        ensures law { LeadsFrom (lines_of sheet) (port_by P.waiting P.most P.gap P.pause port) [] result }
     {
         Master {
             net: Network::new(sheet),
             port,
-        }
-    }
-
-    fn hear(&mut self, frame: &Frame) -> Use
-        ensures answer { result ≡ use_of (heard_by (content_of frame.now) self.old.net).0 }
-        ensures state { self.new ≡ after (hear (content_of frame.now)) self.old }
-    {
-        if self.net.heard(frame) {
-            Use::Used
-        } else {
-            Use::Unused
         }
     }
 
@@ -65,10 +54,9 @@ impl<P: Port> Master<P> {
         ensures state { self.new ≡ (hearing id bytes.now self.old).1 }
         ensures law { Carries self.old (hearing_steps id bytes.now) self.new }
     {
-        let Ok(frame) = Frame::new(id, bytes) else {
-            return Err(Refusal::NoFrame);
-        };
-        Ok(self.hear(&frame))
+        let net = &mut self.net;
+        let frame = Frame::new(id, bytes).map_err(|_| Refusal::NoFrame)?;
+        Ok(net.heard(&frame))
     }
 
     // A millisecond went by, for the slaves and for the port.
@@ -117,7 +105,7 @@ impl<P: Port> Master<P> {
         ensures state { self.new ≡ after (called call) self.old }
     {
         match call {
-            Call::Heard(frame) => Answer::Heard(self.hear(&frame)),
+            Call::Heard(frame) => Answer::Heard(self.net.heard(&frame)),
             Call::Tick => {
                 self.tick();
                 Answer::Ticked

@@ -28,10 +28,8 @@ pub fn run_session<P: Port>(sheet: Sheet, port: P, row: &mut [Exchange]) -> Sess
     ensures stands { StandsFrom (lines_of sheet) (map content_of (P.waiting port)) (trace_in (P.most port) (map content_of (P.waiting port)) (map shown_of row.new) result.master.port.waiting) result.master.port.waiting result.go }
 {
     let mut master = Master::new(sheet, port);
-    for place in 0..row.len() {
-        let call = row[place].call;
-        let answer = master.answer(call);
-        row[place] = Exchange { call, answer };
+    for exchange in row {
+        exchange.answer = master.answer(exchange.call);
     }
     let go = master.go();
     Session { master, go }
