@@ -6,4 +6,4 @@ use Rattle.master.specs.Views.{view}
 use Rattle.master.specs.declared.network.Network.{Network}
 
 pub kept : (n : Network) → Keeps (view n).lines
-kept n = keeps_to (lines_of n.sheet) n.sheet.kept
+kept n = keeps_to (lines_of n.roll.sheet) n.roll.sheet.kept

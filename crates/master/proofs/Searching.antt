@@ -51,12 +51,18 @@ module _ (own : ℕ) (xs : List Slave) (k : SlavesKeep own 0 (map slave_of xs)) 
       (λ above. let z = ranked _ n _ (sym ((r rises).1 i d above inside)) in omega arith)
       (cases_lt i at)))
 
+  -- a place whose slave has the node is the node's
+  stands_by : (at : ℕ) (x : Slave) → at < length xs → x ≡ get_or xs at x → x.node ≡ n → Some (slave_of x) ≡ slave_by n (map slave_of xs)
+  stands_by at x h e node =
+      let here : slave_of x ≡ get_or (map slave_of xs) at blank = ap slave_of e ∙ sym (get_or-map slave_of xs at x blank h) in
+      ap (λ c. Some c) here ∙ hinted own (map slave_of xs) k at n (slave_of x) (omega (arith, length-map xs slave_of)) here node
+
+  pub stands : (ys : List Slave) → ys ≡ xs → (at : ℕ) (x : Slave) → at < length ys → x ≡ get_or ys at x → x.node ≡ n → Some (slave_of x) ≡ slave_by n (map slave_of xs)
+  stands ys same at x h e node = stands_by at x (omega (arith, ap length same)) (e ∙ ap (λ zs. get_or zs at x) same) node
+
   -- where it finds a place, the slave there has the node
   present_by : (at : ℕ) (x : Slave) → at < length xs → x ≡ get_or xs at x → IsBinarySearchResult (λ (s : Slave). nat_cmp s.node n) xs (Ok at) → Some (slave_of x) ≡ slave_by n (map slave_of xs)
-  present_by at x h e r =
-      let here : slave_of x ≡ get_or (map slave_of xs) at blank = ap slave_of e ∙ sym (get_or-map slave_of xs at x blank h) in
-      let node : x.node ≡ n = ap (λ (s : Slave). s.node) e ∙ ranked _ n _ (sym (r x)) in
-      ap (λ c. Some c) here ∙ hinted own (map slave_of xs) k at n (slave_of x) (omega (arith, length-map xs slave_of)) here node
+  present_by at x h e r = stands_by at x h e (ap (λ (s : Slave). s.node) e ∙ ranked _ n _ (sym (r x)))
 
   -- the same, of a search in a slice ys that holds the slaves xs
   module _ (ys : List Slave) (same : ys ≡ xs) (r : Result ℕ ℕ) (found : IsBinarySearchResult (λ (s : Slave). nat_cmp s.node n) ys r) where

@@ -16,11 +16,11 @@ abbrev pub state_of : Sheet → Course → State
 state_of s c = record { lines = lines_of s; entries = c.table.entries; sweep = c.sweep; last = c.last; started = c.started; clock = c.clock; phase = c.phase }
 
 abbrev pub view : Network → State
-view n = state_of n.sheet n.course
+view n = state_of n.roll.sheet n.course
 
 -- the listed slaves
 abbrev pub listed : Network → List SlaveLines
-listed n = (lines_of n.sheet).slaves
+listed n = (lines_of n.roll.sheet).slaves
 
 -- what stands for a slave past the last
 abbrev pub blank : SlaveLines

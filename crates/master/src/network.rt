@@ -22,8 +22,16 @@ use sheet::{Sheet, Slave};
 
 #[derive(Drop)]
 pub struct Network {
-    sheet: Sheet,
+    roll: Roll,
     course: Course,
+}
+
+// The sheet, and by node where on it the node's slave may stand. A place is looked at before it is believed, so a wrong one
+// costs time and nothing else. A search alone takes twice the time for a heartbeat in a sheet of 126 slaves.
+#[derive(Drop)]
+pub struct Roll {
+    sheet: Sheet,
+    hints: [u8; 256],
 }
 
 // What changes while the sheet stays.
@@ -59,12 +67,35 @@ fn change_for(wait: u16, duty: Duty) -> Change
 }
 
 // The slave of a node, if the sheet lists it. Its slaves ascend by node.
-fn slave_in(sheet: &Sheet, node: u8) -> Option<&Slave>
+fn search(sheet: &Sheet, node: u8) -> Option<&Slave>
     ensures { slave_seen result ≡ slave_by node (lines_of sheet.now).slaves }
 {
     match sheet.slaves.binary_search_by_key(&node, |c| c.node) {
         Ok(place) => Some(&sheet.slaves[place]),
         Err(_) => None,
+    }
+}
+
+impl Roll {
+    fn new(sheet: Sheet) -> Roll
+        ensures { result.sheet ≡ sheet }
+    {
+        let mut hints = [0; 256];
+        for (place, c) in sheet.slaves.iter().enumerate() {
+            hints[usize::from(c.node)] = place as u8;
+        }
+        Roll { sheet, hints }
+    }
+
+    // The slave of a node, if it is listed.
+    fn slave(&self, node: u8) -> Option<&Slave>
+        ensures { slave_seen result ≡ slave_by node (lines_of self.now.sheet).slaves }
+    {
+        let hint = usize::from(self.hints[usize::from(node)]);
+        match self.sheet.slaves.get(hint) {
+            Some(c) if c.node == node => Some(c),
+            _ => search(&self.sheet, node),
+        }
     }
 }
 
@@ -201,23 +232,24 @@ impl Network {
 
     // The sheet that the master was made from.
     pub(crate) fn sheet(&self) -> &Sheet
-        ensures { result.now ≡ self.now.sheet }
+        ensures { result.now ≡ self.now.roll.sheet }
     {
-        &self.sheet
+        &self.roll.sheet
     }
 
     // How many of the listed slaves have a quality.
     fn count(&self, quality: Quality) -> usize
         ensures { result ≡ counted quality (view self.now) }
     {
-        self.course.count(self.sheet.slaves.as_slice(), quality)
+        self.course
+            .count(self.roll.sheet.slaves.as_slice(), quality)
     }
 
     // How many of the listed slaves have a quality, and whether all have.
     fn all(&self, quality: Quality) -> bool
         ensures { result ≡ (counted quality (view self.now) == length (listed self.now)) }
     {
-        self.count(quality) == self.sheet.slaves.len()
+        self.count(quality) == self.roll.sheet.slaves.len()
     }
 
     // Go: as many slaves are cleared as are listed.
@@ -230,13 +262,13 @@ impl Network {
     pub(crate) fn tick(&mut self)
         ensures { view self.new ≡ ticked (view self.old) }
     {
-        self.course.tick(&self.sheet);
+        self.course.tick(&self.roll.sheet);
     }
 
     pub(crate) fn result(&self, node: u8) -> Option<Letter>
         ensures { result ≡ result_of node (view self.now) }
     {
-        match slave_in(&self.sheet, node) {
+        match self.roll.slave(node) {
             Some(c) => self.course.table.at(c).result,
             None => Some(Letter::NotListed),
         }
@@ -250,13 +282,14 @@ impl Network {
         if !self.is_running() {
             return Use::Unused;
         }
-        let Some(c) = slave_in(&self.sheet, frame.node()) else {
+        let roll = &self.roll;
+        let Some(c) = roll.slave(frame.node()) else {
             return Use::Unused;
         };
         let Some(input) = self.course.input(c, frame) else {
             return Use::Unused;
         };
-        self.course.step(&self.sheet, c, input);
+        self.course.step(&roll.sheet, c, input);
         Use::Used
     }
 
@@ -264,10 +297,10 @@ impl Network {
     fn sweeps_to(&self, node: u8) -> bool
         ensures { result ≡ sweeps_to (view self.now) node }
     {
-        if node == self.sheet.own {
+        if node == self.roll.sheet.own {
             return false;
         }
-        match slave_in(&self.sheet, node) {
+        match self.roll.slave(node) {
             Some(c) => !self.course.has(c, Quality::Spared),
             None => true,
         }
@@ -289,7 +322,7 @@ impl Network {
     fn next_due(&self) -> Option<(u8, Duty)>
         ensures { result ≡ next_due (view self.now) }
     {
-        let slaves = self.sheet.slaves.as_slice();
+        let slaves = self.roll.sheet.slaves.as_slice();
         self.course.first_due(slaves, true)?;
         let go = self.go();
         let (before, behind) = slaves.split_at(self.count(Quality::Served));
@@ -303,7 +336,7 @@ impl Network {
     fn starts_all(&self) -> bool
         ensures { result ≡ starts_all (view self.now) }
     {
-        self.sheet.startall && !self.course.started && self.all(Quality::Passed)
+        self.roll.sheet.startall && !self.course.started && self.all(Quality::Passed)
     }
 
     fn duty_plan(&self) -> Plan
@@ -358,7 +391,7 @@ impl Network {
         match duty {
             Duty::Reset(reset) => Some(nmt(Command::from(reset), node)),
             Duty::Request(check) => {
-                let c = slave_in(&self.sheet, node)?;
+                let c = self.roll.slave(node)?;
                 Some(request_of(c, check).frame())
             }
             Duty::Start => Some(nmt(Command::Start, node)),
@@ -383,7 +416,7 @@ impl Network {
     fn apply_to(&mut self, node: u8, change: Change)
         ensures { view self.new ≡ with_entries (applied_to change (slave_by node (listed self.old)) (view self.old).entries) (view self.old) }
     {
-        if let Some(c) = slave_in(&self.sheet, node) {
+        if let Some(c) = self.roll.slave(node) {
             self.course.table.apply(c, change);
         }
     }
@@ -392,7 +425,7 @@ impl Network {
     fn apply_all(&mut self, change: Change)
         ensures { view self.new ≡ with_entries (applied_all change (listed self.old) (view self.old).entries) (view self.old) }
     {
-        self.course.apply_all(&self.sheet, change);
+        self.course.apply_all(&self.roll.sheet, change);
     }
 
     // What the master becomes when the plan's frame is put.
@@ -414,7 +447,7 @@ impl Network {
                 });
             }
             Plan::Serve { node, duty } => {
-                self.apply_to(node, change_for(self.sheet.wait, duty));
+                self.apply_to(node, change_for(self.roll.sheet.wait, duty));
                 self.served(node, matches!(duty, Duty::Start));
             }
             Plan::StartAll { node } => {
@@ -438,7 +471,7 @@ impl Network {
         ensures { view result ≡ fresh_state (lines_of sheet) }
     {
         let mut network = Network {
-            sheet,
+            roll: Roll::new(sheet),
             course: Course {
                 table: Table::new(),
                 sweep: Some(Sweep::Begun {

@@ -47,27 +47,19 @@ impl Table {
     pub(crate) fn shortens(&mut self, c: &Slave, input: Input) -> bool
         ensures { Shortened (slave_of c.now) input self.old.entries result self.new.entries }
     {
-        let e = self.at(c);
-        let Stage::Passed {
-            running,
-            started,
-            left,
-        } = e.stage
-        else {
-            return false;
-        };
-        let (left, word) = match input {
-            Input::Tick if c.hb > 0 && left > 1 => (left - 1, e.word),
-            Input::Heard(sign) if is_heartbeat(sign) => (c.hb, Word::from(sign)),
-            _ => return false,
-        };
-        let stage = Stage::Passed {
-            running,
-            started,
-            left,
-        };
-        self.replace(c, Entry { stage, word, ..e });
-        true
+        let entry = &mut self.entries[c.node as usize - 1];
+        match (&mut entry.stage, input) {
+            (Stage::Passed { left, .. }, Input::Tick) if c.hb > 0 && *left > 1 => {
+                *left -= 1;
+                true
+            }
+            (Stage::Passed { left, .. }, Input::Heard(sign)) if is_heartbeat(sign) => {
+                *left = c.hb;
+                entry.word = Word::from(sign);
+                true
+            }
+            _ => false,
+        }
     }
 
     // One slave's step; the others stay.

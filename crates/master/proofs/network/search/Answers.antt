@@ -4,7 +4,7 @@ use Rattle.sheet.proofs.Keeping.{keeps_to}
 use Rattle.sheet.specs.Sheets.{lines_of}
 use Rattle.sheet.specs.declared.model.slave.Slave.{Slave}
 use Rattle.master.proofs.Searching.{absent, present}
-use Rattle.master.proofs.network.slave_in.Goals as goal
+use Rattle.master.proofs.network.search.Goals as goal
 
 pub returns-in-Ok : goal.returns-in-Ok
 returns-in-Ok c =
