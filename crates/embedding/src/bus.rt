@@ -2,7 +2,7 @@
 use frames::frame::Frame;
 use frames::nmt::{Command, NmtMessage};
 
-// What the device can say.
+// What the device can say, in bytes: a driver hands these on, and what they mean is the master's to read.
 #[derive(Clone, Copy)]
 pub enum Received {
     // on 705h: 00h is a boot-up, the rest are states

@@ -1,10 +1,10 @@
 ghost use Rattle.std.specs.Prelude.{◌≡◌, ◌+◌, ◌≤◌, length};
 ghost use Rattle.ports.specs.Turns.{count};
 
-use slot::Slot;
+pub use slot::Slot;
 
 pub mod methods;
-pub mod slot;
+mod slot;
 
 // The mailbox port: three slots, those in use numbered by turn from 1 on. Every frame that leaves lowers the turns of the
 // others, so that no turn passes 3.

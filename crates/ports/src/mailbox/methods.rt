@@ -4,8 +4,7 @@ ghost use Rattle.ports.specs.Mail.{mail_waiting};
 ghost use Rattle.ports.specs.MailLaws.{mail_within};
 ghost use Rattle.ports.specs.Turns.{nearer};
 
-use super::Mailbox;
-use super::slot::Slot;
+use super::{Mailbox, Slot};
 use crate::port::Port;
 use frames::frame::Frame;
 
