@@ -1,4 +1,4 @@
-// The table of all nodes' entries. One record is repeated for each node; those of unlisted nodes never change.
+// The table of all nodes' entries, in memory of a fixed size: one record is repeated for each node. Those of unlisted nodes never change.
 ghost use Rattle.std.specs.Prelude.{◌≡◌, replicate};
 ghost use Rattle.sheet.specs.Views.{slave_of};
 ghost use Rattle.master.specs.Step.{stepped};
