@@ -1,8 +1,7 @@
 // A CAN controller with one transmit buffer, as a port.
 ghost use Rattle.std.specs.Prelude.{◌≡◌, ◌≤◌, length, None};
 ghost use Rattle.std.specs.Option.{option_to_list};
-ghost use Rattle.std.proofs.Common.{arith};
-ghost use Rattle.embedding.specs.Buffers.{one_at_most};
+ghost use Rattle.embedding.specs.Buffers.{one_at_most, one_is_enough};
 
 use frames::frame::Frame;
 use ports::port::Port;
@@ -31,7 +30,7 @@ impl Port for TransmitBuffer {
 
     ghost pause = { λ _. 0 };
 
-    ghost least = { λ _. omega arith };
+    ghost least = { λ _. one_is_enough };
 
     ghost within = { λ p. one_at_most p.frame };
 

@@ -1,5 +1,8 @@
 pub mod Meaning
+pub mod Fair
+pub mod FairLaws
 pub mod Gaps
+pub mod TurnCases
 pub mod Turns
 pub mod Mail
 pub mod MailLaws
