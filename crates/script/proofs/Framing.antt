@@ -1,37 +1,26 @@
 -- What a frame's line says, from its parts.
-use Rattle.std.proofs.Common.{◌≡◌, ℕ, List, [], Some, None, Option, sym, ap, ◌∙◌}
+use Rattle.std.proofs.Common.{◌≡◌, ℕ, List, [], Some, None, Option, sym, refl, ap, ◌∙◌}
 use Rattle.std.specs.Option.{option_map}
 use Rattle.sheet.specs.Lines.{cut_at}
 use Rattle.script.specs.Sessions.{heard, and_then, number_in, kept_in, frame_in, parts}
 use Rattle.script.proofs.Parting.{parts_first, parts_only}
 
-whole : (v : List ℕ) (r : List ℕ × List ℕ) → Some r ≡ cut_at 44 v → and_then (number_in r.0) (λ id. option_map (λ bs. heard id bs) (kept_in (parts r.1))) ≡ frame_in (parts v)
-whole v r cut = ap frame_in (sym (parts_first v r cut))
+number_first : (o : Option ℕ) (k : Option (List ℕ)) (bs : List ℕ) → Some bs ≡ k → option_map (λ n. heard n bs) o ≡ and_then o (λ id. option_map (λ bs. heard id bs) k)
+number_first None k bs e = refl
+number_first (Some n) k bs e = ap (option_map (λ bs. heard n bs)) e
 
-pub frame_first : (v : List ℕ) (r : List ℕ × List ℕ) (n : ℕ) (bs : List ℕ) → Some r ≡ cut_at 44 v → Some n ≡ number_in r.0 → Some bs ≡ kept_in (parts r.1) → Some (heard n bs) ≡ frame_in (parts v)
-frame_first v r n bs cut number kept =
-    ap (option_map (λ bs. heard n bs)) kept
-    ∙ ap (λ (o : Option ℕ). and_then o (λ id. option_map (λ bs. heard id bs) (kept_in (parts r.1)))) number
-    ∙ whole v r cut
+no_bytes : (o : Option ℕ) (k : Option (List ℕ)) → None ≡ k → None ≡ and_then o (λ id. option_map (λ bs. heard id bs) k)
+no_bytes None k e = refl
+no_bytes (Some n) k e = ap (option_map (λ bs. heard n bs)) e
 
-pub frame_no_id : (v : List ℕ) (r : List ℕ × List ℕ) → Some r ≡ cut_at 44 v → None ≡ number_in r.0 → None ≡ frame_in (parts v)
-frame_no_id v r cut number =
-    ap (λ (o : Option ℕ). and_then o (λ id. option_map (λ bs. heard id bs) (kept_in (parts r.1)))) number
-    ∙ whole v r cut
+-- with a comma the bytes stand behind the first
+pub frame_first : (v : List ℕ) (r : List ℕ × List ℕ) (bs : List ℕ) → Some r ≡ cut_at 44 v → Some bs ≡ kept_in (parts r.1) → option_map (λ n. heard n bs) (number_in r.0) ≡ frame_in (parts v)
+frame_first v r bs cut kept = number_first (number_in r.0) _ bs kept ∙ ap frame_in (sym (parts_first v r cut))
 
-pub frame_no_bytes : (v : List ℕ) (r : List ℕ × List ℕ) (n : ℕ) → Some r ≡ cut_at 44 v → Some n ≡ number_in r.0 → None ≡ kept_in (parts r.1) → None ≡ frame_in (parts v)
-frame_no_bytes v r n cut number kept =
-    ap (option_map (λ bs. heard n bs)) kept
-    ∙ ap (λ (o : Option ℕ). and_then o (λ id. option_map (λ bs. heard id bs) (kept_in (parts r.1)))) number
-    ∙ whole v r cut
+pub frame_no_bytes : (v : List ℕ) (r : List ℕ × List ℕ) → Some r ≡ cut_at 44 v → None ≡ kept_in (parts r.1) → None ≡ frame_in (parts v)
+frame_no_bytes v r cut kept = no_bytes (number_in r.0) _ kept ∙ ap frame_in (sym (parts_first v r cut))
 
-pub frame_only : (v : List ℕ) (n : ℕ) (bs : List ℕ) → None ≡ cut_at 44 v → Some n ≡ number_in v → bs ≡ [] → Some (heard n bs) ≡ frame_in (parts v)
-frame_only v n bs cut number empty =
-    ap (λ (x : List ℕ). Some (heard n x)) empty
-    ∙ ap (λ (o : Option ℕ). and_then o (λ id. Some (heard id []))) number
-    ∙ ap frame_in (sym (parts_only v cut))
-
-pub frame_none : (v : List ℕ) → None ≡ cut_at 44 v → None ≡ number_in v → None ≡ frame_in (parts v)
-frame_none v cut number =
-    ap (λ (o : Option ℕ). and_then o (λ id. Some (heard id []))) number
-    ∙ ap frame_in (sym (parts_only v cut))
+-- with none there are no bytes
+pub frame_only : (v bs : List ℕ) → None ≡ cut_at 44 v → bs ≡ [] → option_map (λ n. heard n bs) (number_in v) ≡ frame_in (parts v)
+frame_only v bs cut empty =
+    number_first (number_in v) _ bs (ap (λ (x : List ℕ). Some x) empty) ∙ ap frame_in (sym (parts_only v cut))

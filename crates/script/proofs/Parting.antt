@@ -1,10 +1,10 @@
 -- How a text falls into parts where it is cut.
-use Rattle.std.proofs.Common.{◌≡◌, ℕ, ◌+◌, ◌-◌, ◌<◌, Bool, true, false, cond, eqb, List, [], ◌∷◌, length, get_or, take, drop, Some, None, Option, refl, ap, ◌∙◌, arith}
+use Rattle.std.proofs.Common.{◌≡◌, ℕ, ◌+◌, ◌-◌, ◌<◌, Bool, true, false, cond, eqb, List, [], ◌∷◌, length, get_or, take, drop, Some, None, Option, unwrap_or, refl, ap, ◌∙◌, arith}
 use Rattle.std.specs.Option.{option_map}
 use Rattle.std.proofs.lemmas.List.{take_rest}
 use Rattle.sheet.specs.Lines.{cut_at}
 use Rattle.sheet.proofs.Cutting.{cut_found}
-use Rattle.script.specs.Sessions.{parts, on_first}
+use Rattle.script.specs.Sessions.{parts, on_first, first_line, lines, on_line}
 
 pub cut_parts : (b : ℕ) (s : List ℕ) (i : ℕ) → i < length s → ((k : ℕ) → k < i → get_or s k 0 ≡ b → ⊥) → get_or s i 0 ≡ b → Some (let p : List ℕ × List ℕ = (take (i - 0) s, take (length s - (i + 1)) (drop (i + 1) s)) in p) ≡ cut_at b s
 cut_parts b s i h n e =
@@ -48,3 +48,15 @@ only_by c cs false (Some q) ih e = absurd (let z : ◌≡◌ {A = ℕ} 0 1 = cc 
 pub parts_only : (t : List ℕ) → None ≡ cut_at 44 t → parts t ≡ t ∷ []
 parts_only [] e = refl
 parts_only (c ∷ cs) e = only_by c cs (eqb c 44) (cut_at 44 cs) (parts_only cs) e
+
+-- the first line of a text that is not empty is the first of its lines, and the others are those of the text after it
+line_by : (c : ℕ) (cs : List ℕ) (f : Bool) (o : Option (List ℕ × List ℕ)) → o ≡ cut_at 10 cs → (0 < length cs → lines cs ≡ (unwrap_or o (let p : List ℕ × List ℕ = (cs, []) in p)).0 ∷ lines (unwrap_or o (let p : List ℕ × List ℕ = (cs, []) in p)).1) → (let r : List ℕ × List ℕ = unwrap_or (cond f (Some ([], cs)) (option_map (λ p. (c ∷ p.0, p.1)) o)) (c ∷ cs, []) in cond f ([] ∷ lines cs) (on_line c (lines cs)) ≡ r.0 ∷ lines r.1)
+line_by c cs true o e ih = refl
+line_by c [] false None e ih = refl
+line_by c [] false (Some q) e ih = absurd (let z : ◌≡◌ {A = ℕ} 0 1 = cc in omega arith)
+line_by c (d ∷ ds) false None e ih = ap (on_line c) (ih (omega arith))
+line_by c (d ∷ ds) false (Some q) e ih = ap (on_line c) (ih (omega arith))
+
+pub line_first : (t : List ℕ) → 0 < length t → lines t ≡ (first_line t).0 ∷ lines (first_line t).1
+line_first [] h = absurd (omega arith)
+line_first (c ∷ cs) h = line_by c cs (eqb c 10) (cut_at 10 cs) refl (line_first cs)

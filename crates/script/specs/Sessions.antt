@@ -73,3 +73,13 @@ line_in t = and_then (cut_at 61 t) (λ p. and_then (key_in p.0) (λ k. under_key
 -- a line ends before the first byte 10, and the last one at the end of the text
 abbrev pub first_line : List ℕ → List ℕ × List ℕ
 first_line t = unwrap_or (cut_at 10 t) (t, [])
+
+-- put in front of the first line, which may have to be begun
+abbrev pub on_line : ℕ → List (List ℕ) → List (List ℕ)
+on_line c [] = (c ∷ []) ∷ []
+on_line c (l ∷ ls) = (c ∷ l) ∷ ls
+
+-- the lines of a text, one after the other
+abbrev pub lines : List ℕ → List (List ℕ)
+lines [] = []
+lines (c ∷ cs) = cond (c == 10) ([] ∷ lines cs) (on_line c (lines cs))

@@ -7,9 +7,11 @@ mod notes;
 mod reader;
 mod report;
 mod session;
+pub mod text;
 
 pub use lines::Line;
 pub use message::Data;
 pub use reader::{cut, next_line, read_line};
 pub use report::Style;
 pub use session::{play, print_report, run};
+pub use text::Lines;

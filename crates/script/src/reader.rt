@@ -1,9 +1,8 @@
 // The lines of a session's text, and what each asks for.
 ghost use Rattle.std.specs.Prelude.{◌≡◌, ◌<◌, length};
 ghost use Rattle.std.specs.Option.{option_map};
-ghost use Rattle.std.specs.Str.{bytes_eq};
 ghost use Rattle.sheet.specs.Lines.{cut_at};
-ghost use Rattle.script.specs.Sessions.{number_in, byte_in, kept_in, parts, frame_in, key_in, under_key, line_in, first_line};
+ghost use Rattle.script.specs.Sessions.{heard, number_in, byte_in, kept_in, parts, frame_in, key_in, under_key, line_in, first_line};
 ghost use Rattle.script.specs.Views.{bytes_of, line_of, pair_of};
 
 use crate::lines::{Key, Line};
@@ -42,11 +41,7 @@ fn decimal(digits: &[u8]) -> Option<u32>
 fn byte(digits: &[u8]) -> Option<u8>
     ensures { result ≡ byte_in digits.now }
 {
-    let n = decimal(digits)?;
-    if n > 255 {
-        return None;
-    }
-    Some(n as u8)
+    u8::try_from(decimal(digits)?).ok()
 }
 
 // Bytes with a comma between each two.
@@ -63,43 +58,32 @@ fn bytes(text: &[u8]) -> Option<Data>
     Some(data)
 }
 
+fn heard_with(id: &[u8], data: Data) -> Option<Line>
+    ensures { option_map line_of result ≡ option_map (λ n. heard n (bytes_of «data»)) (number_in id.now) }
+{
+    let id = decimal(id)?;
+    Some(Line::Heard { id, data })
+}
+
 // An identifier, and behind a comma the bytes, if there are any.
 fn heard(value: &[u8]) -> Option<Line>
     ensures { option_map line_of result ≡ frame_in (parts value.now) }
 {
     match cut(value, b',') {
-        Some((first, more)) => {
-            let id = decimal(first)?;
-            let data = bytes(more)?;
-            Some(Line::Heard { id, data })
-        }
-        None => {
-            let id = decimal(value)?;
-            let data = Data::none();
-            Some(Line::Heard { id, data })
-        }
+        Some((id, more)) => heard_with(id, bytes(more)?),
+        None => heard_with(value, Data::none()),
     }
-}
-
-fn same(text: &[u8], name: &str) -> bool
-    ensures { result ≡ bytes_eq text.now name.now }
-{
-    text == name.as_bytes()
 }
 
 fn key(name: &[u8]) -> Option<Key>
     ensures { result ≡ key_in name.now }
 {
-    if same(name, "heard") {
-        Some(Key::Heard)
-    } else if same(name, "work") {
-        Some(Key::Work)
-    } else if same(name, "take") {
-        Some(Key::Take)
-    } else if same(name, "tick") {
-        Some(Key::Tick)
-    } else {
-        None
+    match name {
+        b"heard" => Some(Key::Heard),
+        b"work" => Some(Key::Work),
+        b"take" => Some(Key::Take),
+        b"tick" => Some(Key::Tick),
+        _ => None,
     }
 }
 

@@ -7,8 +7,9 @@ ghost use Rattle.script.specs.Views.{line_of};
 
 use crate::lines::Line;
 use crate::notes::{FrameNote, LampNote, Outcome, halted_note, letter_note, refusal_note};
-use crate::reader::{next_line, read_line};
+use crate::reader::read_line;
 use crate::report::{Output, Printer, Style};
+use crate::text::Lines;
 use frames::nmt::{Command, NmtMessage};
 use frames::queue::Queue;
 use master::{Master, Refusal};
@@ -136,13 +137,10 @@ pub fn play<W: Write, P: Port>(
     ensures { OnOk result (machine_by P.Port.waiting P.Port.most P.Port.gap P.Port.pause master.new ≡ played session.now (machine_by P.Port.waiting P.Port.most P.Port.gap P.Port.pause master.old)) }
 {
     let printer = Printer { heap, style };
-    let mut rest = session;
-    while !rest.is_empty() {
-        let (text, more) = next_line(rest);
+    for text in Lines::new(session) {
         if let Some(line) = read_line(text) {
             carry_out(printer, out, master, line)?;
         }
-        rest = more;
     }
     Ok(())
 }
