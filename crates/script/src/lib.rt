@@ -6,6 +6,7 @@ pub mod message;
 mod notes;
 mod reader;
 mod report;
+mod ring;
 mod session;
 pub mod text;
 
@@ -13,5 +14,6 @@ pub use lines::Line;
 pub use message::Data;
 pub use reader::{cut, next_line, read_line};
 pub use report::Style;
+pub use ring::{ring_master, ring_places};
 pub use session::{play, print_report, run};
 pub use text::Lines;

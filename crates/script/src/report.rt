@@ -1,6 +1,8 @@
 // The lines that a run prints, and the column behind them.
+use crate::notes::{Note, Outcome};
 use frames::frame::Frame;
-use master::Letter;
+use master::{Letter, Refusal};
+use sheet::Fault;
 use std::alloc::Global;
 use std::fmt;
 use std::io::Write;
@@ -14,11 +16,13 @@ pub enum Style {
 
 // A line as it is printed.
 #[derive(Clone, Copy)]
-pub(crate) enum Output {
+pub(crate) enum Output<'a> {
     // what a take answered
     Out(Option<Frame>),
-    Refused(u8),
-    Go(bool),
+    BadSheet(Fault),
+    Refused(Refusal),
+    // Go, with what the run came to for each listed slave
+    Go { go: bool, slaves: &'a [Outcome] },
     Halted(bool),
     Slave { node: u8, letter: Option<Letter> },
 }
@@ -35,49 +39,37 @@ fn write_out<W: fmt::Write>(f: &mut fmt::Formatter<W>, taken: Option<Frame>) -> 
     Ok(())
 }
 
-impl fmt::Display for Output {
+impl fmt::Display for Output<'_> {
     fn fmt<W: fmt::Write>(&self, f: &mut fmt::Formatter<W>) -> fmt::Result {
         match *self {
             Output::Out(taken) => write_out(f, taken),
-            Output::Refused(number) => write!(f, "refused={number}"),
-            Output::Go(go) => {
-                let digit = u8::from(go);
-                write!(f, "go={digit}")
-            }
-            Output::Halted(halted) => {
-                let digit = u8::from(halted);
-                write!(f, "halted={digit}")
-            }
+            Output::BadSheet(fault) => write!(f, "refused={}", fault.number()),
+            Output::Refused(refusal) => write!(f, "refused={}", refusal.number()),
+            Output::Go { go, .. } => write!(f, "go={}", u8::from(go)),
+            Output::Halted(halted) => write!(f, "halted={}", u8::from(halted)),
             Output::Slave { node, letter } => {
-                let text = match letter {
-                    Some(letter) => letter.text(),
-                    None => "none",
-                };
+                let text = letter.map_or("none", |letter| letter.text());
                 write!(f, "slave={node},{text}")
             }
         }
     }
 }
 
-#[derive(Clone, Copy)]
-pub(crate) struct Printer {
+// Where the lines go, and whether each has its note.
+#[derive(Drop)]
+pub(crate) struct Printer<'a, W> {
     pub(crate) heap: Global,
     pub(crate) style: Style,
+    pub(crate) out: &'a mut W,
 }
 
-impl Printer {
-    // A line, and its note if the style wants it.
-    pub(crate) fn line<W: Write, N: fmt::Display>(
-        self,
-        out: &mut W,
-        line: Output,
-        note: &N,
-    ) -> anyhow::Result<()> {
+impl<W: Write> Printer<'_, W> {
+    pub(crate) fn line(&mut self, line: Output<'_>) -> anyhow::Result<()> {
         match self.style {
-            Style::Plain => writeln!(out, "{line}")?,
+            Style::Plain => writeln!(self.out, "{line}")?,
             Style::Explained => {
                 let text = format!(in self.heap; "{line}")?;
-                writeln!(out, "{text:<32}  {note}")?;
+                writeln!(self.out, "{text:<32}  {}", Note(line))?;
             }
         }
         Ok(())

@@ -1,0 +1,37 @@
+// A master on the port that all programs give it: a gap port on a ring of 64.
+ghost use Rattle.std.specs.Prelude.{◌≡◌, []};
+ghost use Rattle.master.specs.FromPort.{fresh_machine};
+ghost use Rattle.master.specs.Masters.{machine_by};
+ghost use Rattle.ports.specs.Gaps.{gap_ticks};
+ghost use Rattle.sheet.specs.Sheets.{lines_of};
+
+use frames::frame::Frame;
+use frames::nmt::{Command, NmtMessage};
+use frames::queue::Queue;
+use master::Master;
+use ports::gap_port::GapPort;
+use ports::port::Port;
+use sheet::Sheet;
+
+// The places of a ring, with a frame in each that never leaves.
+pub fn ring_places() -> [Frame; 64] {
+    let blank = NmtMessage {
+        command: Command::Start,
+        node: 0,
+    };
+    [blank.frame(); 64]
+}
+
+// A fresh master with a sheet; nothing waits in its port yet.
+pub fn ring_master<'a>(
+    sheet: Sheet,
+    places: &'a mut [Frame; 64],
+) -> Master<GapPort<Queue<'a, Frame>>>
+    ensures { machine_by ⟦<GapPort<Queue<'a, Frame>> as Port>⟧.waiting ⟦<GapPort<Queue<'a, Frame>> as Port>⟧.most ⟦<GapPort<Queue<'a, Frame>> as Port>⟧.gap ⟦<GapPort<Queue<'a, Frame>> as Port>⟧.pause result ≡ fresh_machine (lines_of sheet) (record { waiting = []; most = 64; gap = gap_ticks sheet.inhibit; pause = 0 }) }
+{
+    let inhibit = sheet.inhibit;
+    let Ok(ring) = Queue::new(places) else {
+        unreachable!();
+    };
+    Master::new(sheet, GapPort::new(ring, inhibit))
+}
