@@ -8,12 +8,13 @@ mod reader;
 mod report;
 mod ring;
 mod session;
+pub mod style;
 pub mod text;
 
 pub use lines::Line;
 pub use message::Data;
 pub use reader::{cut, next_line, read_line};
-pub use report::Style;
 pub use ring::{ring_master, ring_places};
 pub use session::{play, print_report, run};
+pub use style::{Style, UnknownStyle};
 pub use text::Lines;

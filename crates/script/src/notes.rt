@@ -24,10 +24,14 @@ impl fmt::Display for Note<'_> {
             Output::BadSheet(fault) => write!(f, "{fault}"),
             Output::Refused(refusal) => f.write_str(refusal_note(refusal)),
             Output::Go { go, slaves } => write_lamp(f, go, slaves),
-            Output::Halted(true) =>
-                f.write_str("a needed slave failed or was lost: the master has stopped"),
+            Output::Halted(true) => f.write_str(
+                "a needed slave failed or was lost: the master has stopped",
+            ),
             Output::Halted(false) => f.write_str("the master is at work"),
-            Output::Slave { letter, .. } => f.write_str(letter.map_or("no result yet", |letter| letter_note(letter))),
+            Output::Slave { letter, .. } => f.write_str(letter.map_or(
+                "no result yet",
+                |letter| letter_note(letter),
+            )),
         }
     }
 }

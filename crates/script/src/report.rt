@@ -1,18 +1,12 @@
 // The lines that a run prints, and the column behind them.
 use crate::notes::{Note, Outcome};
+use crate::style::Style;
 use frames::frame::Frame;
 use master::{Letter, Refusal};
 use sheet::Fault;
 use std::alloc::Global;
 use std::fmt;
 use std::io::Write;
-
-#[derive(Clone, Copy)]
-pub enum Style {
-    Plain,
-    // each line with a note for the fitter behind it
-    Explained,
-}
 
 // A line as it is printed.
 #[derive(Clone, Copy)]
@@ -73,5 +67,12 @@ impl<W: Write> Printer<'_, W> {
             }
         }
         Ok(())
+    }
+    // The line of a call that was refused, if it was.
+    pub(crate) fn refusal<T: Copy>(&mut self, answer: Result<T, Refusal>) -> anyhow::Result<()> {
+        match answer {
+            Ok(_) => Ok(()),
+            Err(refusal) => self.line(Output::Refused(refusal)),
+        }
     }
 }

@@ -1,5 +1,6 @@
 // A master on the port that all programs give it: a gap port on a ring of 64.
-ghost use Rattle.std.specs.Prelude.{◌≡◌, []};
+ghost use Rattle.std.specs.Prelude.{◌≡◌, [], ◌∷◌, map, replicate};
+ghost use Rattle.frames.specs.Contents.{content_of};
 ghost use Rattle.master.specs.FromPort.{fresh_machine};
 ghost use Rattle.master.specs.Masters.{machine_by};
 ghost use Rattle.ports.specs.Gaps.{gap_ticks};
@@ -14,7 +15,9 @@ use ports::port::Port;
 use sheet::Sheet;
 
 // The places of a ring, with a frame in each that never leaves.
-pub fn ring_places() -> [Frame; 64] {
+pub fn ring_places() -> [Frame; 64]
+    ensures { map content_of result ≡ replicate 64 (record { id = 0; bytes = 1 ∷ 0 ∷ [] }) }
+{
     let blank = NmtMessage {
         command: Command::Start,
         node: 0,

@@ -8,8 +8,9 @@ ghost use Rattle.script.specs.Views.{line_of};
 use crate::lines::Line;
 use crate::notes::Outcome;
 use crate::reader::read_line;
-use crate::report::{Output, Printer, Style};
+use crate::report::{Output, Printer};
 use crate::ring::{ring_master, ring_places};
+use crate::style::Style;
 use crate::text::Lines;
 use master::Master;
 use ports::port::Port;
@@ -32,38 +33,6 @@ fn repeat<P: Port, F: FnMut(&mut Master<P>) -> anyhow::Result<()>>(
     Ok(())
 }
 
-fn work_times<W: Write, P: Port>(
-    printer: &mut Printer<'_, W>,
-    master: &mut Master<P>,
-    count: u32,
-) -> anyhow::Result<()>
-    ensures { OnOk result (machine_by P.Port.waiting P.Port.most P.Port.gap P.Port.pause master.new ≡ repeated work count (machine_by P.Port.waiting P.Port.most P.Port.gap P.Port.pause master.old)) }
-{
-    repeat(master, count, |master| match master.work() {
-        Ok(_) => Ok(()),
-        Err(refusal) => printer.line(Output::Refused(refusal)),
-    })
-}
-
-fn take_times<W: Write, P: Port>(
-    printer: &mut Printer<'_, W>,
-    master: &mut Master<P>,
-    count: u32,
-) -> anyhow::Result<()>
-    ensures { OnOk result (machine_by P.Port.waiting P.Port.most P.Port.gap P.Port.pause master.new ≡ repeated take count (machine_by P.Port.waiting P.Port.most P.Port.gap P.Port.pause master.old)) }
-{
-    repeat(master, count, |master| printer.line(Output::Out(master.take())))
-}
-
-fn tick_times<P: Port>(master: &mut Master<P>, count: u32) -> anyhow::Result<()>
-    ensures { OnOk result (machine_by P.Port.waiting P.Port.most P.Port.gap P.Port.pause master.new ≡ repeated pass count (machine_by P.Port.waiting P.Port.most P.Port.gap P.Port.pause master.old)) }
-{
-    repeat(master, count, |master| {
-        master.tick();
-        Ok(())
-    })
-}
-
 // The calls that a line asks for. A refused call does not end a count.
 fn carry_out<W: Write, P: Port>(
     printer: &mut Printer<'_, W>,
@@ -73,15 +42,15 @@ fn carry_out<W: Write, P: Port>(
     ensures { OnOk result (machine_by P.Port.waiting P.Port.most P.Port.gap P.Port.pause master.new ≡ done (line_of line) (machine_by P.Port.waiting P.Port.most P.Port.gap P.Port.pause master.old)) }
 {
     match line {
-        Line::Heard { id, data } => {
-            if let Err(refusal) = master.heard(id, data.as_slice()) {
-                printer.line(Output::Refused(refusal))?;
-            }
+        Line::Heard { id, data } => printer.refusal(master.heard(id, data.as_slice())),
+        Line::Work(count) => repeat(master, count, |master| printer.refusal(master.work())),
+        Line::Take(count) => repeat(master, count, |master| {
+            printer.line(Output::Out(master.take()))
+        }),
+        Line::Tick(count) => repeat(master, count, |master| {
+            master.tick();
             Ok(())
-        }
-        Line::Work(count) => work_times(printer, master, count),
-        Line::Take(count) => take_times(printer, master, count),
-        Line::Tick(count) => tick_times(master, count),
+        }),
     }
 }
 
