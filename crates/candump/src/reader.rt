@@ -11,31 +11,25 @@ use crate::number::number;
 use frames::frame::Frame;
 use script::cut;
 
-// What stands after a `b` that comes first.
-fn after(s: &[u8], b: u8) -> Option<&[u8]>
-    ensures { option_map held result ≡ after_first b s.now }
+// What stands after a prefix of one byte.
+fn after<'a>(s: &'a [u8], prefix: &[u8; 1]) -> Option<&'a [u8]>
+    ensures { option_map held result ≡ after_first (slice_index prefix.now 0) s.now }
 {
-    match s {
-        [first, rest @ ..] if *first == b => Some(rest),
-        _ => None,
-    }
+    s.strip_prefix(prefix)
 }
 
 // A line may end in a carriage return.
 fn trimmed(line: &[u8]) -> &[u8]
     ensures { result.now ≡ without 13 line.now }
 {
-    match line {
-        [front @ .., b'\r'] => front,
-        _ => line,
-    }
+    line.strip_suffix(b"\r").unwrap_or(line)
 }
 
 fn words(line: &[u8]) -> Option<Words<'_>>
     ensures { option_map words_of result ≡ words_in line.now }
 {
-    let (stamp, rest) = cut(after(line, b'(')?, b')')?;
-    let (interface, message) = cut(after(rest, b' ')?, b' ')?;
+    let (stamp, rest) = cut(after(line, b"(")?, b')')?;
+    let (interface, message) = cut(after(rest, b" ")?, b' ')?;
     if interface.is_empty() {
         return None;
     }
@@ -64,11 +58,8 @@ fn identifier(text: &[u8]) -> Option<u32>
     if text.len() != 3 {
         return None;
     }
-    let id = number(16, text)?;
-    if id > 2047 {
-        return None;
-    }
-    Some(id as u32)
+    let id = u32::try_from(number(16, text)?).ok()?;
+    (id <= 2047).then_some(id)
 }
 
 // A frame with an identifier and bytes of two digits each, at most eight of them.
