@@ -2,9 +2,11 @@ pub mod Refusals
 pub mod Bytes
 pub mod Contents
 pub mod Fields
+pub mod Codes
 pub mod Nmt
 pub mod Sdo
 pub mod Signs
 pub mod Lists
 pub mod Waiting
+pub mod Texts
 pub mod Trials

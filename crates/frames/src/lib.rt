@@ -11,3 +11,4 @@ pub mod sdo;
 #[cfg(test)]
 mod tests;
 pub mod trials;
+pub mod unknown_code;

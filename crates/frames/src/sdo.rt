@@ -51,32 +51,30 @@ fn write_of(size: Size, value: u32) -> (u8, [u8; 4])
     }
 }
 
-// The value that an answer to a read carries in the bytes after its leading ones.
-fn value_in(command: u8, rest: &[u8]) -> Option<u32>
-    ensures { result ≡ value_in command rest.now }
+// The value that an answer to a read carries in its last four bytes.
+fn value_in(command: u8, value: [u8; 4]) -> Option<u32>
+    ensures { result ≡ value_in command value }
 {
-    let [a, b, c, d] = rest else {
-        return None;
-    };
+    let [a, b, c, d] = value;
     match command {
-        0x4F => Some(u32::from_le_bytes([*a, 0, 0, 0])),
-        0x4B => Some(u32::from_le_bytes([*a, *b, 0, 0])),
-        0x47 => Some(u32::from_le_bytes([*a, *b, *c, 0])),
-        0x43 => Some(u32::from_le_bytes([*a, *b, *c, *d])),
+        0x4F => Some(u32::from_le_bytes([a, 0, 0, 0])),
+        0x4B => Some(u32::from_le_bytes([a, b, 0, 0])),
+        0x47 => Some(u32::from_le_bytes([a, b, c, 0])),
+        0x43 => Some(u32::from_le_bytes([a, b, c, d])),
         _ => None,
     }
 }
 
 impl Access {
-    // What an answer says by its first byte and the bytes after its leading ones, if it fits.
-    fn said(self, command: u8, rest: &[u8]) -> Option<Reply>
-        ensures { result ≡ said_to self command rest.now }
+    // What an answer says by its first byte and its last four, if it fits.
+    fn said(self, command: u8, value: [u8; 4]) -> Option<Reply>
+        ensures { result ≡ said_to self command value }
     {
         match (self, command) {
             (_, 0x80) => Some(Reply::Abort),
             (Access::Write(_, _), 0x60) => Some(Reply::Written),
             (Access::Write(_, _), _) => None,
-            (Access::Read, _) => Some(Reply::Value(value_in(command, rest)?)),
+            (Access::Read, _) => value_in(command, value).map(Reply::Value),
         }
     }
 }
@@ -105,16 +103,12 @@ impl Request {
         if frame.id() != 0x580 + self.node as u16 {
             return None;
         }
-        let bytes = frame.data();
-        if bytes.len() != 8 {
-            return None;
-        }
-        let [command, low, high, sub, rest @ ..] = bytes else {
+        let &[command, low, high, sub, a, b, c, d] = frame.data() else {
             return None;
         };
-        if u16::from_le_bytes([*low, *high]) != self.index || *sub != self.sub {
+        if u16::from_le_bytes([low, high]) != self.index || sub != self.sub {
             return None;
         }
-        self.access.said(*command, rest)
+        self.access.said(command, [a, b, c, d])
     }
 }

@@ -5,17 +5,15 @@ use std::test::Fail;
 
 // Puts two elements through a queue in the lent memory, and says whether the first was a command and what came out.
 fn through<T: Identified + Copy>(slots: &mut [T], a: T, b: T) -> Option<(bool, u32, u32)> {
-    match Queue::new(slots) {
-        Ok(mut queue) => {
-            let _ = queue.put(a);
-            let _ = queue.put(b);
-            let command = queue.first_is_command();
-            let x = queue.take()?;
-            let y = queue.take()?;
-            Some((command, x.identifier(), y.identifier()))
-        }
-        Err(_) => None,
-    }
+    let mut queue = Queue::new(slots).ok()?;
+    let _ = queue.put(a);
+    let _ = queue.put(b);
+    let command = queue.first_is_command();
+    Some((
+        command,
+        queue.take()?.identifier(),
+        queue.take()?.identifier(),
+    ))
 }
 
 #[test]

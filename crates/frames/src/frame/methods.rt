@@ -1,10 +1,12 @@
-ghost use Rattle.std.specs.Prelude.{◌≡◌, ◌%◌, ◌≤◌, length, Decides};
+ghost use Rattle.std.specs.Prelude.{◌≡◌, ◌%◌, ◌≤◌, length, Some, Decides};
 ghost use Rattle.std.specs.Cmp.{partial_equiv_from_equiv};
 ghost use Rattle.frames.specs.Contents.{Made, content_of};
 ghost use Rattle.frames.specs.Fields.{fields_agree, fields_agree_equiv, FieldsDecide};
+ghost use Rattle.frames.specs.Texts.{frame_text};
 
 use super::Frame;
 use crate::refusal::Refusal;
+use std::fmt;
 
 impl Frame {
     // A frame from an identifier of any size and any bytes, unless they are too large or too many.
@@ -16,7 +18,7 @@ impl Frame {
             return Err(Refusal::Malformed);
         }
         let mut held = [0u8; 8];
-        held[0..n].copy_from_slice(bytes);
+        held[..n].copy_from_slice(bytes);
         Ok(Frame {
             id: id as u16,
             len: n as u8,
@@ -43,11 +45,11 @@ impl Frame {
         ensures value { result.now ≡ (content_of self.now).bytes }
         ensures legal { length result.now ≤ 8 }
     {
-        &self.bytes[0..self.len as usize]
+        &self.bytes[..usize::from(self.len)]
     }
 }
 
-// Frames are equal exactly if they are the same value.
+// Frames are equal exactly if they are the same value. By hand: a derive has no clauses, and this one promises so.
 impl PartialEq for Frame {
     ghost eq = { fields_agree };
 
@@ -59,13 +61,22 @@ impl PartialEq for Frame {
         ensures same { Decides result (self.now ≡ other.now) }
         ensures law { FieldsDecide }
     {
-        if self.id != other.id || self.len != other.len {
-            return false;
-        }
-        self.bytes == other.bytes
+        self.len == other.len && self.id == other.id && self.bytes == other.bytes
     }
 }
 
 impl Eq for Frame {
     ghost laws = { fields_agree_equiv };
+}
+
+impl fmt::Display for Frame {
+    ghost output = { λ frame. Some (frame_text (content_of frame)) };
+
+    fn fmt<W: fmt::Write>(&self, f: &mut fmt::Formatter<W>) -> fmt::Result {
+        write!(f, "{}", self.id)?;
+        for byte in self.data() {
+            write!(f, ",{byte}")?;
+        }
+        Ok(())
+    }
 }

@@ -1,4 +1,4 @@
-ghost use Rattle.std.specs.Prelude.{◌≡◌, ◌-◌, length};
+ghost use Rattle.std.specs.Prelude.{◌≡◌, ◌+◌, ◌-◌, ◌<◌, ◌≤◌, ◌⊎◌, length};
 ghost use Rattle.frames.specs.Lists.{first_of, rest_of, first_is, accepts, added};
 ghost use Rattle.frames.specs.Waiting.{Begun, waiting, most};
 
@@ -29,23 +29,29 @@ impl<'a, T: Identified + Copy> Queue<'a, T> {
         self.slots.len() - self.len
     }
 
+    // The place that is `ahead` places behind the head; the first place follows the last.
+    fn place(&self, ahead: usize) -> usize
+        requires { ahead ≤ most self.now }
+        ensures within { result < most self.now }
+        ensures round { (result ≡ self.now.head + ahead) ⊎ (result + most self.now ≡ self.now.head + ahead) }
+    {
+        let at = self.head + ahead;
+        let places = self.slots.len();
+        if at < places { at } else { at - places }
+    }
+
     // Adds an element at the end exactly if there is room, and says whether it did.
     pub fn put(&mut self, x: T) -> bool
         ensures answer { result ≡ accepts (most self.old) (waiting self.old) }
         ensures list { waiting self.new ≡ added (most self.old) (waiting self.old) x }
         ensures same { most self.new ≡ most self.old }
     {
-        let places = self.slots.len();
-        if self.len == places {
+        if self.room() == 0 {
             return false;
         }
-        let ahead = places - self.head;
-        let at = if self.len < ahead {
-            self.head + self.len
-        } else {
-            self.len - ahead
-        };
-        self.slots[at] = x;
+        let len = self.len;
+        let last = self.place(len);
+        self.slots[last] = x;
         self.len += 1;
         true
     }
@@ -55,11 +61,10 @@ impl<'a, T: Identified + Copy> Queue<'a, T> {
         ensures { result ≡ first_of (waiting self.now) }
     {
         if self.len == 0 {
-            return None;
+            None
+        } else {
+            Some(self.slots[self.head])
         }
-        let slots: &[T] = self.slots;
-        let at = self.head;
-        Some(slots[at])
     }
 
     // Removes the first waiting element and answers it.
@@ -68,23 +73,16 @@ impl<'a, T: Identified + Copy> Queue<'a, T> {
         ensures list { waiting self.new ≡ rest_of (waiting self.old) }
         ensures same { most self.new ≡ most self.old }
     {
-        if self.len == 0 {
-            return None;
-        }
-        let x = self.slots[self.head];
-        let next = self.head + 1;
-        self.head = if next == self.slots.len() { 0 } else { next };
+        let first = self.first()?;
+        self.head = self.place(1);
         self.len -= 1;
-        Some(x)
+        Some(first)
     }
 
     // Whether the first waiting element is an NMT command, which has the identifier 0.
     pub fn first_is_command(&self) -> bool
         ensures { result ≡ first_is (λ x. T.Identified.ident x) 0 (waiting self.now) }
     {
-        match self.first() {
-            Some(x) => x.identifier() == 0,
-            None => false,
-        }
+        self.first().is_some_and(|x| x.identifier() == 0)
     }
 }
