@@ -1,7 +1,7 @@
 -- What a reading promises in the subject's words, from its value.
-use Rattle.std.proofs.Common.{◌≡◌, ℕ, List, Ok, Err, Result, sym, refl, ap, ◌∙◌, subst, arith}
+use Rattle.std.proofs.Common.{◌≡◌, ℕ, true, List, Ok, Err, Result, sym, refl, ap, ◌∙◌, subst, arith}
 use Rattle.sheet.specs.declared.faults.Fault.{Fault}
-use Rattle.sheet.specs.Format.{SheetLines, text, reading}
+use Rattle.sheet.specs.Format.{SheetLines, text, good, reading}
 use Rattle.sheet.specs.Rules.{Keeps, Exact}
 use Rattle.sheet.specs.Sheets.{empty_lines, Filled}
 use Rattle.sheet.proofs.Codecs.{ok_is}
@@ -33,3 +33,8 @@ exact t s (Err f) h = record {
   refuses = λ _. never t f h.0;
   alone = λ _. refl;
 }
+
+-- what a reading leaves is a sheet's
+pub filled_good : (t : List ℕ) (s : SheetLines) (r : Result (Unit {0}) Fault) → Filled t s r → good s ≡ true
+filled_good t s (Ok u) h = (writes_reading t s h).1
+filled_good t s (Err f) h = ap good h.1

@@ -3,9 +3,7 @@ pub mod Cutting
 pub mod Exactness
 pub mod Judging
 pub mod Keeping
-pub mod LineReads
 pub mod Loops
 pub mod Numbers
 pub mod RoundTrip
-pub mod Tokening
 pub mod Writing

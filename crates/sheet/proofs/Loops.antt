@@ -1,5 +1,6 @@
 -- A loop that reads n values, step by step.
-use Rattle.std.proofs.Common.{◌≡◌, ℕ, suc, ◌+◌, ◌-◌, ◌<◌, ◌≤◌, List, [], ◌∷◌, ◌++◌, Ok, Err, Result, sym, refl, ap, ◌∙◌, subst, append_assoc, append-nil, arith}
+use Rattle.std.proofs.Common.{◌≡◌, ℕ, suc, ◌+◌, ◌-◌, ◌<◌, ◌≤◌, List, [], ◌∷◌, ◌++◌, Ok, Err, Result, IsErrAnd, sym, refl, ap, ◌∙◌, subst, append_assoc, append-nil, arith}
+use Rattle.std.proofs.lemmas.Result.{err_from_is_err_and}
 use Rattle.sheet.specs.declared.faults.Fault.{Fault}
 use Rattle.sheet.specs.Lines.{bind}
 use Rattle.sheet.specs.Reads.{Reads}
@@ -45,5 +46,6 @@ module _ {S A : Type 0} (c : S → Codec A) (next : S → A → S) where
   pub done : (s : S) (n i l : ℕ) (t : List ℕ) (acc : List A) → n ≤ i → Rest s (n - i) l t acc ≡ Ok (acc, (l, t))
   done s n i l t acc h = let k : n - i ≡ 0 = omega arith in ap (λ k. Rest s k l t acc) k ∙ (λ j. Ok (append-nil acc j, (l, t)))
 
-pub reads_err : {A X : Type 0} (v : X → A) (q : Reading A) (r : Result X Fault) (e : Fault) (l : ℕ) (t : List ℕ) → r ≡ Err e → q ≡ Err e → Reads v q r l t
-reads_err v q r e l t h k = subst (λ x. Reads v q x l t) (sym h) k
+-- a fault that was met is what a reader answers
+pub reads_err : {A X : Type 0} (v : X → A) (q : Reading A) (r : Result X Fault) (e : Fault) (l : ℕ) (t : List ℕ) → IsErrAnd r (λ x. x ≡ e) → q ≡ Err e → Reads v q r l t
+reads_err v q r e l t h k = let p = err_from_is_err_and r h in subst (λ x. Reads v q x l t) (sym (p.1 ∙ ap (λ e. Err e) p.2)) k

@@ -2,12 +2,13 @@ pub mod Codec
 pub mod Cursors
 pub mod Decimal
 pub mod Faults
+pub mod Few
 pub mod Format
 pub mod Keys
 pub mod Lines
+pub mod Pairs
 pub mod Reads
 pub mod Rules
 pub mod Sheets
-pub mod Tokens
 pub mod Views
 pub mod Writes

@@ -1,6 +1,6 @@
 use Rattle.std.proofs.Common.{◌^◌, ◌<◌, arith}
 use Rattle.std.proofs.Math.Nat.{one-le-pow}
-use Rattle.sheet.proofs.reader.read_set.Goals as goal
+use Rattle.sheet.proofs.cursor.Cursor.set.Goals as goal
 
 pub invariant_of-result : goal.invariant_of-result
 invariant_of-result c =
