@@ -60,3 +60,11 @@ line_by c (d ∷ ds) false (Some q) e ih = ap (on_line c) (ih (omega arith))
 pub line_first : (t : List ℕ) → 0 < length t → lines t ≡ (first_line t).0 ∷ lines (first_line t).1
 line_first [] h = absurd (omega arith)
 line_first (c ∷ cs) h = line_by c cs (eqb c 10) (cut_at 10 cs) refl (line_first cs)
+
+shorter_than : (t : List ℕ) (o : Option (List ℕ × List ℕ)) → o ≡ cut_at 10 t → 0 < length t → length (unwrap_or o (let p : List ℕ × List ℕ = (t, []) in p)).1 < length t
+shorter_than t None e some = some
+shorter_than t (Some r) e some = cut_shorter 10 t r e
+
+-- what comes after the first line of a text that is not empty is shorter
+pub first_shorter : (t : List ℕ) → 0 < length t → length (first_line t).1 < length t
+first_shorter t some = shorter_than t (cut_at 10 t) refl some

@@ -1,7 +1,7 @@
 // What the printed lines mean, in words for the fitter.
 use crate::report::Output;
 use frames::frame::Frame;
-use frames::nmt::{Command, NmtMessage};
+use frames::nmt::NmtMessage;
 use master::{Letter, Refusal};
 use std::fmt;
 
@@ -42,27 +42,8 @@ fn write_taken<W: fmt::Write>(f: &mut fmt::Formatter<W>, taken: Option<Frame>) -
         return f.write_str("nothing may leave the port now");
     };
     match NmtMessage::read(&frame) {
-        Some(message) => write_nmt(f, message),
+        Some(message) => write!(f, "{message}"),
         None => write_request(f, &frame),
-    }
-}
-
-fn command_text(command: Command) -> &'static str {
-    match command {
-        Command::Start => "start",
-        Command::Stop => "stop",
-        Command::ResetNode => "reset node",
-        Command::ResetCommunication => "reset communication",
-    }
-}
-
-fn write_nmt<W: fmt::Write>(f: &mut fmt::Formatter<W>, message: NmtMessage) -> fmt::Result {
-    let command = command_text(message.command);
-    let node = message.node;
-    if node == 0 {
-        write!(f, "NMT {command} to all")
-    } else {
-        write!(f, "NMT {command} to node {node}")
     }
 }
 

@@ -1,35 +1,19 @@
 // The lines of a session's text, and what each asks for.
 ghost use Rattle.std.specs.Prelude.{◌≡◌, ◌<◌, length};
 ghost use Rattle.std.specs.Option.{option_map};
-ghost use Rattle.sheet.specs.Lines.{cut_at};
+ghost use Rattle.sheet.specs.Pairs.{pair_of};
 ghost use Rattle.script.specs.Sessions.{heard, number_in, byte_in, kept_in, parts, frame_in, key_in, under_key, line_in, first_line};
-ghost use Rattle.script.specs.Views.{bytes_of, line_of, pair_of};
+ghost use Rattle.script.specs.Views.{bytes_of, line_of};
 
-use crate::lines::{Key, Line};
-use crate::message::Data;
-use sheet::number;
-
-// What stands before the first `b`, and what after it; none if there is no `b`.
-pub fn cut(s: &[u8], b: u8) -> Option<(&[u8], &[u8])>
-    ensures { option_map pair_of result ≡ cut_at b s.now }
-{
-    for (i, x) in s.iter().enumerate() {
-        if *x == b {
-            return Some((&s[0..i], &s[i + 1..]));
-        }
-    }
-    None
-}
+use crate::lines::{Data, Key, Line};
+use sheet::{cut, number};
 
 // The text's first line without its end, and the text after it. The last line may lack its end.
 pub fn next_line(text: &[u8]) -> (&[u8], &[u8])
     ensures value { pair_of result ≡ first_line text.now }
     ensures shorter { 0 < length text.now → length result.1.now < length text.now }
 {
-    match cut(text, b'\n') {
-        Some(line) => line,
-        None => (text, &[]),
-    }
+    cut(text, b'\n').unwrap_or((text, &[]))
 }
 
 fn decimal(digits: &[u8]) -> Option<u32>
@@ -48,7 +32,7 @@ fn byte(digits: &[u8]) -> Option<u8>
 fn bytes(text: &[u8]) -> Option<Data>
     ensures { option_map bytes_of result ≡ kept_in (parts text.now) }
 {
-    let mut data = Data::none();
+    let mut data = Data::new(0);
     let mut rest = text;
     while let Some((first, more)) = cut(rest, b',') {
         data.push(byte(first)?);
@@ -71,7 +55,7 @@ fn heard(value: &[u8]) -> Option<Line>
 {
     match cut(value, b',') {
         Some((id, more)) => heard_with(id, bytes(more)?),
-        None => heard_with(value, Data::none()),
+        None => heard_with(value, Data::new(0)),
     }
 }
 

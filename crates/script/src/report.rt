@@ -21,22 +21,11 @@ pub(crate) enum Output<'a> {
     Slave { node: u8, letter: Option<Letter> },
 }
 
-fn write_out<W: fmt::Write>(f: &mut fmt::Formatter<W>, taken: Option<Frame>) -> fmt::Result {
-    let Some(frame) = taken else {
-        return f.write_str("out=none");
-    };
-    let id = frame.id();
-    write!(f, "out={id}")?;
-    for byte in frame.data() {
-        write!(f, ",{byte}")?;
-    }
-    Ok(())
-}
-
 impl fmt::Display for Output<'_> {
     fn fmt<W: fmt::Write>(&self, f: &mut fmt::Formatter<W>) -> fmt::Result {
         match *self {
-            Output::Out(taken) => write_out(f, taken),
+            Output::Out(Some(frame)) => write!(f, "out={frame}"),
+            Output::Out(None) => f.write_str("out=none"),
             Output::BadSheet(fault) => write!(f, "refused={}", fault.number()),
             Output::Refused(refusal) => write!(f, "refused={}", refusal.number()),
             Output::Go { go, .. } => write!(f, "go={}", u8::from(go)),

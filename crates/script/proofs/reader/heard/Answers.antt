@@ -12,4 +12,4 @@ pub returns-in_ok-bytes-in-Some : goal.returns-in_ok-bytes-in-Some
 returns-in_ok-bytes-in-Some c = c.heard_with.ensures ∙ frame_first c.args.value.now _ _ c.in-Some.ensures c.in_ok-bytes-in-Some.ensures
 
 pub returns-in-None : goal.returns-in-None
-returns-in-None c = c.heard_with-in-None.ensures ∙ frame_only c.args.value.now _ c.in-None.ensures c.none.ensures
+returns-in-None c = c.heard_with-in-None.ensures ∙ frame_only c.args.value.now _ c.in-None.ensures c.new.ensures
