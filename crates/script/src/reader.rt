@@ -2,8 +2,8 @@
 ghost use Rattle.std.specs.Prelude.{◌≡◌, ◌<◌, length};
 ghost use Rattle.std.specs.Option.{option_map};
 ghost use Rattle.sheet.specs.Pairs.{pair_of};
-ghost use Rattle.script.specs.Sessions.{heard, number_in, byte_in, kept_in, parts, frame_in, key_in, under_key, line_in, first_line};
-ghost use Rattle.script.specs.Views.{bytes_of, line_of};
+ghost use Rattle.script.specs.Sessions.{number_in, byte_in, parts, frame_in, key_in, under_key, line_in, first_line};
+ghost use Rattle.script.specs.Views.{line_of};
 
 use crate::lines::{Data, Key, Line};
 use sheet::{cut, number};
@@ -28,35 +28,17 @@ fn byte(digits: &[u8]) -> Option<u8>
     u8::try_from(decimal(digits)?).ok()
 }
 
-// Bytes with a comma between each two.
-fn bytes(text: &[u8]) -> Option<Data>
-    ensures { option_map bytes_of result ≡ kept_in (parts text.now) }
-{
-    let mut data = Data::new(0);
-    let mut rest = text;
-    while let Some((first, more)) = cut(rest, b',') {
-        data.push(byte(first)?);
-        rest = more;
-    }
-    data.push(byte(rest)?);
-    Some(data)
-}
-
-fn heard_with(id: &[u8], data: Data) -> Option<Line>
-    ensures { option_map line_of result ≡ option_map (λ n. heard n (bytes_of «data»)) (number_in id.now) }
-{
-    let id = decimal(id)?;
-    Some(Line::Heard { id, data })
-}
-
-// An identifier, and behind a comma the bytes, if there are any.
+// An identifier, and behind it bytes, with a comma between each two.
 fn heard(value: &[u8]) -> Option<Line>
     ensures { option_map line_of result ≡ frame_in (parts value.now) }
 {
-    match cut(value, b',') {
-        Some((id, more)) => heard_with(id, bytes(more)?),
-        None => heard_with(value, Data::new(0)),
+    let mut parts = value.split(|b| *b == b',');
+    let id = decimal(parts.next()?)?;
+    let mut data = Data::new(0);
+    for part in parts {
+        data.push(byte(part)?);
     }
+    Some(Line::Heard { id, data })
 }
 
 fn key(name: &[u8]) -> Option<Key>
