@@ -1,5 +1,6 @@
 ghost use Rattle.std.specs.Prelude.{◌≡◌, max};
 ghost use Rattle.ports.specs.Gaps.{gap_ticks, GapTrials};
+ghost use Rattle.ports.specs.Meaning.{is_command};
 
 use super::port::Port;
 use frames::frame::Frame;
@@ -18,6 +19,12 @@ pub fn gap_ticks(inhibit: u16) -> u16
     ensures trials { GapTrials }
 {
     inhibit.div_ceil(10)
+}
+
+fn is_command(frame: Frame) -> bool
+    ensures { result ≡ is_command frame }
+{
+    frame.id() == 0
 }
 
 impl<P: Port> GapPort<P> {
@@ -61,26 +68,18 @@ impl<P: Port> Port for GapPort<P> {
     }
 
     fn take(&mut self) -> Option<Frame> {
-        if self.pause > 0 {
-            if let Some(frame) = self.first() {
-                if frame.id() == 0 {
-                    return None;
-                }
-            }
+        if self.pause > 0 && self.first().is_some_and(is_command) {
+            return None;
         }
         let taken = self.below.take();
-        if let Some(frame) = taken {
-            if frame.id() == 0 {
-                self.pause = self.gap;
-            }
+        if taken.is_some_and(is_command) {
+            self.pause = self.gap;
         }
         taken
     }
 
     fn tick(&mut self) {
-        if self.pause > 0 {
-            self.pause -= 1;
-        }
+        self.pause = self.pause.saturating_sub(1);
         self.below.tick();
     }
 }

@@ -14,10 +14,9 @@ pub fn hand_over<P: Port, Q: Port>(from: &mut P, to: &mut Q)
     ensures to_most { Q.Port.most to.new ≡ Q.Port.most to.old }
     ensures to_gap { Q.Port.gap to.new ≡ Q.Port.gap to.old }
 {
-    while to.room() > 0 {
-        let Some(frame) = from.take() else {
-            break;
-        };
+    while to.room() > 0
+        && let Some(frame) = from.take()
+    {
         let _ = to.put(frame);
     }
 }

@@ -7,17 +7,17 @@ use frames::queue::Queue;
 
 // The ring port: a queue of frames in lent memory, with no gap between commands.
 impl<'a> Port for Queue<'a, Frame> {
-    ghost waiting = { λ p. queueWaiting p };
+    ghost waiting = { queueWaiting };
 
-    ghost most = { λ p. queueMost p };
+    ghost most = { queueMost };
 
     ghost gap = { λ _. 0 };
 
     ghost pause = { λ _. 0 };
 
-    ghost least = { λ p. queue_some p };
+    ghost least = { queue_some };
 
-    ghost within = { λ p. queue_within p };
+    ghost within = { queue_within };
 
     fn room(&self) -> usize {
         Queue::room(self)

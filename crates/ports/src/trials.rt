@@ -11,12 +11,10 @@ pub fn ring_of_one(a: Frame, b: Frame) -> (bool, bool, Option<Frame>, bool)
     ensures trial { OnePlace a b }
 {
     let mut slots = [b; 1];
-    let Ok(mut ring) = Queue::new(&mut slots) else {
-        return (false, false, None, false);
-    };
-    let first = <Queue<'_, Frame> as crate::port::Port>::put(&mut ring, a);
-    let second = <Queue<'_, Frame> as crate::port::Port>::put(&mut ring, b);
-    let taken = <Queue<'_, Frame> as crate::port::Port>::take(&mut ring);
-    let third = <Queue<'_, Frame> as crate::port::Port>::put(&mut ring, b);
+    let mut ring = Queue::new(&mut slots).unwrap();
+    let first = Port::put(&mut ring, a);
+    let second = Port::put(&mut ring, b);
+    let taken = Port::take(&mut ring);
+    let third = Port::put(&mut ring, b);
     (first, second, taken, third)
 }
