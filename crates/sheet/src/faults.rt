@@ -5,6 +5,7 @@ ghost use Rattle.sheet.specs.declared.faults.LineFault.TheVariants.{Digits};
 ghost use Rattle.sheet.specs.Faults.{refusal_of, line_number_of, layer_of, short_refusal};
 
 use crate::keys::Key;
+use std::error::Error;
 use std::fmt;
 
 // The refusal number of an output that is too short.
@@ -104,11 +105,11 @@ impl Fault {
         match *self {
             Fault::Line(LineFault::Digits(d)) => d.line,
             Fault::Line(LineFault::Shape { line, .. }) => line,
-            Fault::Range { line, .. } => line,
-            Fault::Order { line } => line,
-            Fault::Silent { line } => line,
-            Fault::TooManySets { line } => line,
-            Fault::After { line } => line,
+            Fault::Range { line, .. }
+            | Fault::Order { line }
+            | Fault::Silent { line }
+            | Fault::TooManySets { line }
+            | Fault::After { line } => line,
         }
     }
 
@@ -142,40 +143,40 @@ impl fmt::Display for Layer {
     }
 }
 
+impl fmt::Display for DigitsFault {
+    fn fmt<W: fmt::Write>(&self, f: &mut fmt::Formatter<W>) -> fmt::Result {
+        f.write_str("the value must be a decimal number up to 4294967295 without leading zeros")
+    }
+}
+
+impl fmt::Display for LineFault {
+    fn fmt<W: fmt::Write>(&self, f: &mut fmt::Formatter<W>) -> fmt::Result {
+        match self {
+            LineFault::Digits(fault) => write!(f, "{fault}"),
+            LineFault::Shape { due, .. } => {
+                write!(f, "'{due}=' with a number and a line end is due here")
+            }
+        }
+    }
+}
+
 // A sentence for the fitter.
 impl fmt::Display for Fault {
     fn fmt<W: fmt::Write>(&self, f: &mut fmt::Formatter<W>) -> fmt::Result {
-        let line = self.line();
-        write!(f, "line {line}: ")?;
-        match *self {
-            Fault::Line(LineFault::Digits(_)) => {
-                f.write_str(
-                    "the value must be a decimal number up to 4294967295 without leading zeros",
-                )?;
-            }
-            Fault::Line(LineFault::Shape { due, .. }) => {
-                let name = due.name();
-                write!(f, "'{name}=' with a number and a line end is due here")?;
-            }
+        write!(f, "line {}: ", self.line())?;
+        match self {
+            Fault::Line(fault) => write!(f, "{fault}")?,
             Fault::Range { key, low, high, .. } => {
-                let name = key.name();
-                write!(f, "{name} must be from {low} to {high}")?;
+                write!(f, "{key} must be from {low} to {high}")?;
             }
             Fault::Order { .. } => {
                 f.write_str("node must be above the last slave's and other than own")?;
             }
-            Fault::Silent { .. } => {
-                f.write_str("hb must be above 0 for a keep-alive slave")?;
-            }
-            Fault::TooManySets { .. } => {
-                f.write_str("a sheet has at most 256 sets in all")?;
-            }
-            Fault::After { .. } => {
-                f.write_str("nothing may follow the last line")?;
-            }
+            Fault::Silent { .. } => f.write_str("hb must be above 0 for a keep-alive slave")?,
+            Fault::TooManySets { .. } => f.write_str("a sheet has at most 256 sets in all")?,
+            Fault::After { .. } => f.write_str("nothing may follow the last line")?,
         }
-        let number = self.number();
-        write!(f, " (refusal {number})")
+        write!(f, " (refusal {})", self.number())
     }
 }
 
@@ -186,3 +187,11 @@ impl fmt::Display for TooShort {
         write!(f, "the output must hold {needed} bytes (refusal {number})")
     }
 }
+
+impl Error for DigitsFault {}
+
+impl Error for LineFault {}
+
+impl Error for Fault {}
+
+impl Error for TooShort {}

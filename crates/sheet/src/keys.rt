@@ -1,6 +1,8 @@
 // The keys of a sheet's lines.
-ghost use Rattle.std.specs.Prelude.{◌≡◌};
+ghost use Rattle.std.specs.Prelude.{◌≡◌, Some};
 ghost use Rattle.sheet.specs.Keys.{name_of};
+
+use std::fmt;
 
 #[derive(Clone, Copy, Debug, PartialEq, Eq)]
 pub enum Key {
@@ -57,5 +59,13 @@ impl Key {
             Key::Size => "size",
             Key::Value => "value",
         }
+    }
+}
+
+impl fmt::Display for Key {
+    ghost output = { λ k. Some (name_of k) };
+
+    fn fmt<W: fmt::Write>(&self, f: &mut fmt::Formatter<W>) -> fmt::Result {
+        f.write_str(self.name())
     }
 }

@@ -1,14 +1,13 @@
 // A sheet's text, written into a slice. Bytes past the slice's end are counted and not written, so that the same
 // code on an empty slice gives the length.
-ghost use Rattle.std.specs.Prelude.{◌≡◌, ◌+◌, ◌*◌, ◌^◌, ◌<◌, ◌≤◌, map, length, if◌then◌else◌, decimal};
-ghost use Rattle.std.specs.List.{flat_map};
+ghost use Rattle.std.specs.Prelude.{◌≡◌, ◌+◌, ◌^◌, ◌<◌, ◌≤◌, length, if◌then◌else◌, decimal};
 ghost use Rattle.sheet.specs.Format.{set_c, slave_text, text};
 ghost use Rattle.sheet.specs.Keys.{name_of};
 ghost use Rattle.sheet.specs.Lines.{line_text};
 ghost use Rattle.sheet.specs.Rules.{Lasting};
 ghost use Rattle.sheet.specs.Sheets.{lines_of};
 ghost use Rattle.sheet.specs.Views.{set_of, slave_of};
-ghost use Rattle.sheet.specs.Writes.{Wrote, Written};
+ghost use Rattle.sheet.specs.Writes.{Adds, Wrote, Written};
 
 use crate::faults::TooShort;
 use crate::keys::Key;
@@ -16,125 +15,113 @@ use crate::model::set::Set;
 use crate::model::sheet::Sheet;
 use crate::model::slave::Slave;
 
-fn put(out: &mut [u8], at: usize, bytes: &[u8]) -> usize
-    requires { at + length bytes.now < 2 ^ 40 }
-    ensures { Wrote out.old at bytes.now out.new result }
-{
-    let mut place = at;
-    for b in bytes {
-        if place < out.len() {
-            out[place] = *b;
+#[derive(Drop)]
+struct Writer<'a> {
+    out: &'a mut [u8],
+    // how long the text is so far
+    len: usize,
+}
+
+impl<'a> Writer<'a> {
+    fn put(&mut self, bytes: &[u8])
+        requires { self.old.len + length bytes.now < 2 ^ 40 }
+        ensures { Adds self.old bytes.now self.new }
+    {
+        for b in bytes {
+            if self.len < self.out.len() {
+                self.out[self.len] = *b;
+            }
+            self.len += 1;
         }
-        place += 1;
     }
-    place
-}
 
-fn put_number(out: &mut [u8], at: usize, n: u32) -> usize
-    requires { at < 2 ^ 39 }
-    ensures wrote { Wrote out.old at (decimal n) out.new result }
-    ensures bound { result ≤ at + 10 }
-{
-    let mut place = at;
-    if n >= 10 {
-        place = put_number(out, at, n / 10);
+    fn number(&mut self, n: u32)
+        requires { self.old.len < 2 ^ 39 }
+        ensures adds { Adds self.old (decimal n) self.new }
+        ensures bound { self.new.len ≤ self.old.len + 10 }
+    {
+        if n >= 10 {
+            self.number(n / 10);
+        }
+        self.put(&[b'0' + (n % 10) as u8]);
     }
-    put(out, place, &[b'0' + (n % 10) as u8])
-}
 
-fn put_key(out: &mut [u8], at: usize, key: Key) -> usize
-    requires { at < 2 ^ 39 }
-    ensures wrote { Wrote out.old at (name_of key) out.new result }
-    ensures bound { result ≤ at + 9 }
-{
-    put(out, at, key.name().as_bytes())
-}
-
-fn put_line(out: &mut [u8], at: usize, key: Key, n: u32) -> usize
-    requires { at < 2 ^ 38 }
-    ensures wrote { Wrote out.old at (line_text key n) out.new result }
-    ensures bound { result ≤ at + 21 }
-{
-    let eq = put_key(out, at, key);
-    let value = put(out, eq, b"=");
-    let end = put_number(out, value, n);
-    put(out, end, b"\n")
-}
-
-fn put_bit(out: &mut [u8], at: usize, key: Key, b: bool) -> usize
-    requires { at < 2 ^ 38 }
-    ensures wrote { Wrote out.old at (line_text key (if b then 1 else 0)) out.new result }
-    ensures bound { result ≤ at + 21 }
-{
-    let n = if b { 1 } else { 0 };
-    put_line(out, at, key, n)
-}
-
-fn put_set(out: &mut [u8], at: usize, set: &Set) -> usize
-    requires { at < 2 ^ 37 }
-    ensures wrote { Wrote out.old at (set_c.write (set_of set.now)) out.new result }
-    ensures bound { result ≤ at + 84 }
-{
-    let a = put_line(out, at, Key::Index, set.index as u32);
-    let b = put_line(out, a, Key::Sub, set.sub as u32);
-    let c = put_line(out, b, Key::Size, set.size as u32);
-    put_line(out, c, Key::Value, set.value)
-}
-
-fn put_sets(out: &mut [u8], at: usize, sets: &[Set]) -> usize
-    requires { (at < 2 ^ 36) × (length sets.now ≤ 32) }
-    ensures wrote { Wrote out.old at (flat_map set_c.write (map set_of sets.now)) out.new result }
-    ensures bound { result ≤ at + 84 * 32 }
-{
-    let mut place = at;
-    for set in sets {
-        place = put_set(out, place, set);
+    fn line(&mut self, key: Key, n: u32)
+        requires { self.old.len < 2 ^ 38 }
+        ensures adds { Adds self.old (line_text key n) self.new }
+        ensures bound { self.new.len ≤ self.old.len + 21 }
+    {
+        self.put(key.name().as_bytes());
+        self.put(b"=");
+        self.number(n);
+        self.put(b"\n");
     }
-    place
-}
 
-fn put_slave(out: &mut [u8], at: usize, slave: &Slave) -> usize
-    requires { at < 2 ^ 35 }
-    ensures wrote { Wrote out.old at (slave_text (slave_of slave.now)) out.new result }
-    ensures bound { result ≤ at + 3000 }
-{
-    let sets = slave.sets.as_slice();
-    let a = put_line(out, at, Key::Node, slave.node as u32);
-    let b = put_bit(out, a, Key::Mandatory, slave.mandatory);
-    let c = put_bit(out, b, Key::Keep, slave.keep);
-    let d = put_line(out, c, Key::Kind, slave.kind);
-    let e = put_line(out, d, Key::Vendor, slave.vendor);
-    let f = put_line(out, e, Key::Product, slave.product);
-    let g = put_line(out, f, Key::Revision, slave.revision);
-    let h = put_line(out, g, Key::Serial, slave.serial);
-    let i = put_line(out, h, Key::Hb, slave.hb as u32);
-    let j = put_line(out, i, Key::Sets, sets.len() as u32);
-    put_sets(out, j, sets)
-}
-
-fn put_slaves(out: &mut [u8], at: usize, slaves: &[Slave]) -> usize
-    requires { (at < 2 ^ 30) × (length slaves.now ≤ 126) }
-    ensures { Wrote out.old at (flat_map slave_text (map slave_of slaves.now)) out.new result }
-{
-    let mut place = at;
-    for slave in slaves {
-        place = put_slave(out, place, slave);
+    fn flag(&mut self, key: Key, b: bool)
+        requires { self.old.len < 2 ^ 38 }
+        ensures adds { Adds self.old (line_text key (if b then 1 else 0)) self.new }
+        ensures bound { self.new.len ≤ self.old.len + 21 }
+    {
+        self.line(key, u32::from(b));
     }
-    place
+
+    fn set(&mut self, set: &Set)
+        requires { self.old.len < 2 ^ 37 }
+        ensures adds { Adds self.old (set_c.write (set_of set.now)) self.new }
+        ensures bound { self.new.len ≤ self.old.len + 84 }
+    {
+        self.line(Key::Index, u32::from(set.index));
+        self.line(Key::Sub, u32::from(set.sub));
+        self.line(Key::Size, u32::from(set.size));
+        self.line(Key::Value, set.value);
+    }
+
+    fn slave(&mut self, slave: &Slave)
+        requires { self.old.len < 2 ^ 35 }
+        ensures adds { Adds self.old (slave_text (slave_of slave.now)) self.new }
+        ensures bound { self.new.len ≤ self.old.len + 3000 }
+    {
+        let sets = slave.sets.as_slice();
+        self.line(Key::Node, u32::from(slave.node));
+        self.flag(Key::Mandatory, slave.mandatory);
+        self.flag(Key::Keep, slave.keep);
+        self.line(Key::Kind, slave.kind);
+        self.line(Key::Vendor, slave.vendor);
+        self.line(Key::Product, slave.product);
+        self.line(Key::Revision, slave.revision);
+        self.line(Key::Serial, slave.serial);
+        self.line(Key::Hb, u32::from(slave.hb));
+        self.line(Key::Sets, sets.len() as u32);
+        for set in sets {
+            self.set(set);
+        }
+    }
+
+    fn sheet(&mut self, sheet: &Sheet)
+        requires { self.old.len < 2 ^ 30 }
+        ensures { Adds self.old (text (lines_of sheet.now)) self.new }
+    {
+        self.line(Key::Own, u32::from(sheet.own));
+        self.line(Key::Wait, u32::from(sheet.wait));
+        self.line(Key::Boottime, sheet.boottime);
+        self.line(Key::Inhibit, u32::from(sheet.inhibit));
+        self.flag(Key::Startall, sheet.startall);
+        self.flag(Key::Resetall, sheet.resetall);
+        self.flag(Key::Stopall, sheet.stopall);
+        self.line(Key::Slaves, sheet.slaves.len() as u32);
+        for slave in &sheet.slaves {
+            self.slave(slave);
+        }
+    }
 }
 
-fn put_sheet(out: &mut [u8], sheet: &Sheet) -> usize
+// Writes the sheet's text as far as `out` goes, and answers the text's length.
+fn written(sheet: &Sheet, out: &mut [u8]) -> usize
     ensures { Wrote out.old 0 (text (lines_of sheet.now)) out.new result }
 {
-    let a = put_line(out, 0, Key::Own, sheet.own as u32);
-    let b = put_line(out, a, Key::Wait, sheet.wait as u32);
-    let c = put_line(out, b, Key::Boottime, sheet.boottime);
-    let d = put_line(out, c, Key::Inhibit, sheet.inhibit as u32);
-    let e = put_bit(out, d, Key::Startall, sheet.startall);
-    let f = put_bit(out, e, Key::Resetall, sheet.resetall);
-    let g = put_bit(out, f, Key::Stopall, sheet.stopall);
-    let h = put_line(out, g, Key::Slaves, sheet.slaves.len() as u32);
-    put_slaves(out, h, &sheet.slaves)
+    let mut writer = Writer { out, len: 0 };
+    writer.sheet(sheet);
+    writer.len
 }
 
 impl Sheet {
@@ -143,12 +130,10 @@ impl Sheet {
         ensures written { Written (text (lines_of self.now)) out.old out.new result }
         ensures lasting { Lasting (lines_of self.now) }
     {
-        let mut none = [0u8; 0];
-        let needed = put_sheet(&mut none, self);
+        let needed = written(self, &mut []);
         if out.len() < needed {
             return Err(TooShort { needed });
         }
-        let n = put_sheet(out, self);
-        Ok(n)
+        Ok(written(self, out))
     }
 }
