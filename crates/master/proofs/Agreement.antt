@@ -1,6 +1,6 @@
 -- While the master runs, each listed slave's entry reads as the record says. Once it has a stop due or is halted, one mandatory slave
 -- has neither passed nor a try, in both.
-use Rattle.std.proofs.Common.{◌≡◌, ℕ, ◌-◌, ◌%◌, ◌≤◌, Bool, true, false, cond, eqb, ltb, ◌⊎◌, List, [], ◌∷◌, ◌++◌, length, get_or, Some, None, Option, sym, refl, ap, ◌∙◌, subst, inl, inr, ⊎_elim, arith}
+use Rattle.std.proofs.Common.{◌≡◌, ℕ, ◌-◌, ◌%◌, ◌≤◌, Bool, true, false, cond, eqb, ltb, ◌⊎◌, List, [], ◌∷◌, ◌++◌, length, get_or, Some, None, Option, sym, refl, ap, ◌∙◌, subst, inl, inr, ⊎_elim, arith, Err, Ok, Result}
 use Rattle.std.proofs.lemmas.List.Sums.{fold_push}
 use Rattle.std.proofs.lemmas.Bool.{cases_eq, cases_Bool, cond-true, cond-false, eq-eqb, ne_eqb}
 use Rattle.frames.specs.Contents.{Content}
@@ -17,8 +17,9 @@ use Rattle.master.specs.Record.{none, Reading, Event, heard, tick, put, read, re
 use Rattle.master.specs.Checks.{verdict_of}
 use Rattle.master.specs.Step.{stepped, on_reply, on_tick, decided}
 use Rattle.master.specs.Table.{fresh, entry_of, changed}
-use Rattle.master.specs.declared.types.Brought.{Brought}
-use Rattle.master.specs.declared.types.Brought.TheVariants as brought
+use Rattle.master.specs.declared.types.Letter.{Letter}
+use Rattle.master.specs.declared.types.Setback.{Setback}
+use Rattle.master.specs.declared.types.Setback.TheVariants as setback
 use Rattle.master.specs.declared.types.Entry.{Entry}
 use Rattle.master.specs.declared.types.Check.{Check}
 use Rattle.master.specs.declared.types.Input.{Input}
@@ -31,8 +32,6 @@ use Rattle.master.specs.declared.types.Stage.TheVariants.{AwaitBoot, Ask, Asked,
 use Rattle.master.specs.declared.types.Stepped.{Stepped}
 use Rattle.master.specs.declared.types.Sweep.{Sweep}
 use Rattle.master.specs.declared.types.Sweep.TheVariants.{Begun}
-use Rattle.master.specs.declared.types.Verdict.{Verdict}
-use Rattle.master.specs.declared.types.Verdict.TheVariants.{Met, Missed}
 use Rattle.master.specs.declared.types.Word.{Word}
 use Rattle.master.proofs.Choosing.{choose}
 use Rattle.master.proofs.Hearing.{inputted, hearing, hearing_seen, far_seen}
@@ -53,20 +52,20 @@ Same ls h t c = seen (entry_of t c) ≡ reading ls c h
 abbrev pub Idle : SheetLines → List Event → List Entry → SlaveLines → Type 0
 Idle ls h t c = (c.mandatory ≡ true) × (try_of (entry_of t c).stage ≡ none) × ((reading ls c h).at ≡ none)
 
-abbrev pub state : SheetLines → List Entry → Sweep → ℕ → Bool → ℕ → Phase → State
+abbrev pub state : SheetLines → List Entry → Option Sweep → ℕ → Bool → ℕ → Phase → State
 state ls t w l b n p = record { lines = ls; entries = t; sweep = w; last = l; started = b; clock = n; phase = p }
 
 pub data Agrees (ls : SheetLines) (h : List Event) : State → Type 0 where
-  live : (t : List Entry) (w : Sweep) (l : ℕ) (b : Bool) (n : ℕ) → length t ≡ 127 → Every (Same ls h t) ls.slaves → Agrees ls h (state ls t w l b n Running)
-  stopping : (t : List Entry) (w : Sweep) (l : ℕ) (b : Bool) (n : ℕ) → SomeOne (Idle ls h t) ls.slaves → Agrees ls h (state ls t w l b n StopDue)
-  halted : (t : List Entry) (w : Sweep) (l : ℕ) (b : Bool) (n : ℕ) → SomeOne (Idle ls h t) ls.slaves → Agrees ls h (state ls t w l b n Halted)
+  live : (t : List Entry) (w : Option Sweep) (l : ℕ) (b : Bool) (n : ℕ) → length t ≡ 127 → Every (Same ls h t) ls.slaves → Agrees ls h (state ls t w l b n Running)
+  stopping : (t : List Entry) (w : Option Sweep) (l : ℕ) (b : Bool) (n : ℕ) → SomeOne (Idle ls h t) ls.slaves → Agrees ls h (state ls t w l b n StopDue)
+  halted : (t : List Entry) (w : Option Sweep) (l : ℕ) (b : Bool) (n : ℕ) → SomeOne (Idle ls h t) ls.slaves → Agrees ls h (state ls t w l b n Halted)
 
 pub is_live : (ls : SheetLines) (h : List Event) (s : State) → s.lines ≡ ls → s.phase ≡ Running → length s.entries ≡ 127 → Every (Same ls h s.entries) ls.slaves → Agrees ls h s
 is_live ls h s e r l k =
     subst (λ p. Agrees ls h (state s.lines s.entries s.sweep s.last s.started s.clock p)) (sym r)
     (subst (λ m. Agrees ls h (state m s.entries s.sweep s.last s.started s.clock Running)) (sym e) (live s.entries s.sweep s.last s.started s.clock l k))
 
-dead_by : (ls : SheetLines) (h : List Event) (t : List Entry) (w : Sweep) (l : ℕ) (b : Bool) (n : ℕ) (p : Phase) → is_running p ≡ false → SomeOne (Idle ls h t) ls.slaves → Agrees ls h (state ls t w l b n p)
+dead_by : (ls : SheetLines) (h : List Event) (t : List Entry) (w : Option Sweep) (l : ℕ) (b : Bool) (n : ℕ) (p : Phase) → is_running p ≡ false → SomeOne (Idle ls h t) ls.slaves → Agrees ls h (state ls t w l b n p)
 dead_by ls h t w l b n Running e k = let z : ◌≡◌ {A = ℕ} 0 1 = cc in absurd (omega arith)
 dead_by ls h t w l b n StopDue e k = stopping t w l b n k
 dead_by ls h t w l b n Halted e k = halted t w l b n k
@@ -96,25 +95,25 @@ module _ (ls : SheetLines) (h : List Event) (f : Content) (t u : List Entry) whe
       (every_zip (Ranged own 0) HeardAt (λ d. (d.node ≤ 127) × HeardAt d) ls.slaves (λ d x y. (x.high, y)) r e) k
 
 -- what a step brings, where the master runs
-abbrev pub Bad : Brought → Type 0
-Bad brought.Nothing = ⊥
-Bad (brought.Missed l) = Unit {0}
-Bad brought.Lost = Unit {0}
+abbrev pub Bad : Option Setback → Type 0
+Bad None = ⊥
+Bad (Some (setback.Missed l)) = Unit {0}
+Bad (Some setback.Lost) = Unit {0}
 
-pub record Left (m : Bool) (b : Brought) (s u : State) : Type 0 where
+pub record Left (m : Bool) (b : Option Setback) (s u : State) : Type 0 where
   pub entries : u.entries ≡ s.entries
   pub lines : u.lines ≡ s.lines
   pub phase : (u.phase ≡ Running) ⊎ ((m ≡ true) × (is_running u.phase ≡ false) × Bad b)
 
-left_by : (b : Brought) (s : State) → s.phase ≡ Running → Left true b s (brought_by b s)
-left_by brought.Nothing s h = record { entries = refl; lines = refl; phase = inl h }
-left_by (brought.Missed l) s h =
-    choose (Left true (brought.Missed l) s) (tries_anew l s) s (with_phase Halted s) (record { entries = refl; lines = refl; phase = inl h }) (record { entries = refl; lines = refl; phase = inr (refl, refl, tt) })
-left_by brought.Lost s h =
-    choose (Left true brought.Lost s) s.lines.stopall (with_phase StopDue s) (cond s.lines.resetall (with_sweep (Begun reset.Node) s) s) (record { entries = refl; lines = refl; phase = inr (refl, refl, tt) })
-    (choose (Left true brought.Lost s) s.lines.resetall (with_sweep (Begun reset.Node) s) s (record { entries = refl; lines = refl; phase = inl h }) (record { entries = refl; lines = refl; phase = inl h }))
+left_by : (b : Option Setback) (s : State) → s.phase ≡ Running → Left true b s (brought_by b s)
+left_by None s h = record { entries = refl; lines = refl; phase = inl h }
+left_by (Some (setback.Missed l)) s h =
+    choose (Left true (Some (setback.Missed l)) s) (tries_anew l s) s (with_phase Halted s) (record { entries = refl; lines = refl; phase = inl h }) (record { entries = refl; lines = refl; phase = inr (refl, refl, tt) })
+left_by (Some setback.Lost) s h =
+    choose (Left true (Some setback.Lost) s) s.lines.stopall (with_phase StopDue s) (cond s.lines.resetall (with_sweep (Some (Begun reset.Node)) s) s) (record { entries = refl; lines = refl; phase = inr (refl, refl, tt) })
+    (choose (Left true (Some setback.Lost) s) s.lines.resetall (with_sweep (Some (Begun reset.Node)) s) s (record { entries = refl; lines = refl; phase = inl h }) (record { entries = refl; lines = refl; phase = inl h }))
 
-pub left : (m : Bool) (b : Brought) (s : State) → s.phase ≡ Running → Left m b s (brings m b s)
+pub left : (m : Bool) (b : Option Setback) (s : State) → s.phase ≡ Running → Left m b s (brings m b s)
 left true b s h = left_by b s h
 left false b s h = record { entries = refl; lines = refl; phase = inl h }
 
@@ -123,9 +122,9 @@ abbrev Ends : Stepped → Type 0
 Ends x = Bad x.brought → try_of x.entry.stage ≡ none
 
 module _ (c : SlaveLines) where
-  ends_decided : (k : Check) (v : Verdict) (e : Entry) → Ends (decided c k v e)
-  ends_decided k Met e b = absurd b
-  ends_decided k (Missed l) e b = refl
+  ends_decided : (k : Check) (v : Result (Unit {0}) Letter) (e : Entry) → Ends (decided c k v e)
+  ends_decided k (Ok u) e b = absurd b
+  ends_decided k (Err l) e b = refl
 
   ends_reply : (r : Reply) (x : Stage) (e : Entry) → Ends (on_reply c r x e)
   ends_reply r (AwaitBoot n) e b = absurd b
@@ -174,7 +173,7 @@ put_back t c d l a b low =
     (cases_eq d.node c.node)
 
 -- a frame heard while the master runs
-module _ (ls : SheetLines) (k : SlavesKeep ls.own 0 ls.slaves) (h : List Event) (f : Content) (t : List Entry) (w : Sweep) (l : ℕ) (b : Bool) (n : ℕ) (long : length t ≡ 127) (same : Every (Same ls h t) ls.slaves) where
+module _ (ls : SheetLines) (k : SlavesKeep ls.own 0 ls.slaves) (h : List Event) (f : Content) (t : List Entry) (w : Option Sweep) (l : ℕ) (b : Bool) (n : ℕ) (long : length t ≡ 127) (same : Every (Same ls h t) ls.slaves) where
   abbrev now : State
   now = state ls t w l b n Running
 

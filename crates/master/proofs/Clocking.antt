@@ -1,5 +1,5 @@
 -- A tick of all listed slaves, and that the record's tick does the same.
-use Rattle.std.proofs.Common.{◌≡◌, ℕ, ◌+◌, ◌<◌, ◌≤◌, min, Bool, true, false, ◌⊎◌, List, [], ◌∷◌, ◌++◌, length, sym, refl, ap, ◌∙◌, subst, inl, inr, ⊎_elim, arith}
+use Rattle.std.proofs.Common.{◌≡◌, ℕ, ◌+◌, ◌<◌, ◌≤◌, min, Bool, true, false, ◌⊎◌, List, [], ◌∷◌, ◌++◌, length, sym, refl, ap, ◌∙◌, subst, inl, inr, ⊎_elim, arith, Option}
 use Rattle.std.proofs.lemmas.Bool.{cases_Bool, cond-true, cond-false}
 use Rattle.sheet.specs.Format.{SlaveLines, SheetLines}
 use Rattle.sheet.specs.Rules.{SlavesKeep}
@@ -97,7 +97,7 @@ some_zip P Q R [] f h k = absurd k
 some_zip P Q R (c ∷ cs) f h (inl p) = inl (f c h.0 p)
 some_zip P Q R (c ∷ cs) f h (inr p) = inr (some_zip P Q R cs f h.1 p)
 
-pub live_ticked : (ls : SheetLines) → SlavesKeep ls.own 0 ls.slaves → (h : List Event) (t : List Entry) (w : Sweep) (l : ℕ) (b : Bool) (n : ℕ) → length t ≡ 127 → Every (Same ls h t) ls.slaves → Agrees ls (h ++ tick ∷ []) (ticked (state ls t w l b n Running))
+pub live_ticked : (ls : SheetLines) → SlavesKeep ls.own 0 ls.slaves → (h : List Event) (t : List Entry) (w : Option Sweep) (l : ℕ) (b : Bool) (n : ℕ) → length t ≡ 127 → Every (Same ls h t) ls.slaves → Agrees ls (h ++ tick ∷ []) (ticked (state ls t w l b n Running))
 live_ticked ls k h t w l b n long same =
     let s : State = state ls t w l b (min (n + 1) 4294967295) Running in
     let u : State = tick_from ls.slaves s in

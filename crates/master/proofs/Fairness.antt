@@ -1,5 +1,5 @@
 -- A reset is due only to a slave that is not spared.
-use Rattle.std.proofs.Common.{◌≡◌, ℕ, ◌-◌, Bool, true, false, cond, not, ◌&&◌, eqb, ltb, Some, None, Option, sym, refl, subst}
+use Rattle.std.proofs.Common.{◌≡◌, ℕ, ◌-◌, Bool, true, false, cond, not, ◌&&◌, eqb, ltb, Some, None, Option, sym, refl, subst, Err, Ok, Result}
 use Rattle.std.proofs.lemmas.Bool.{and_right, cond-false}
 use Rattle.frames.specs.declared.error_control.Sign.{Sign}
 use Rattle.frames.specs.declared.error_control.Sign.TheVariants as sign
@@ -22,8 +22,6 @@ use Rattle.master.specs.declared.types.ResetKind.{ResetKind}
 use Rattle.master.specs.declared.types.Stage.{Stage}
 use Rattle.master.specs.declared.types.Stage.TheVariants.{AwaitBoot, Ask, Asked, ListenState, ListenControl, Passed, Retry, ResetDue}
 use Rattle.master.specs.declared.types.Stepped.{Stepped}
-use Rattle.master.specs.declared.types.Verdict.{Verdict}
-use Rattle.master.specs.declared.types.Verdict.TheVariants.{Met, Missed}
 use Rattle.master.specs.declared.types.Word.{Word}
 use Rattle.master.specs.declared.types.Word.TheVariants as word
 use Rattle.master.proofs.Choosing.{choose, no}
@@ -83,9 +81,9 @@ fair_next c next.ListenState e = no
 fair_next c next.ListenControl e = no
 fair_next c next.Pass e = no
 
-fair_decided : (c : SlaveLines) (k : Check) (v : Verdict) (e : Entry) → Fair c (decided c k v e).entry
-fair_decided c k Met e = fair_next c (following c e.booted k) e
-fair_decided c k (Missed m) e = no
+fair_decided : (c : SlaveLines) (k : Check) (v : Result (Unit {0}) Letter) (e : Entry) → Fair c (decided c k v e).entry
+fair_decided c k (Ok u) e = fair_next c (following c e.booted k) e
+fair_decided c k (Err m) e = no
 
 fair_reply : (c : SlaveLines) (r : Reply) (x : Stage) (e : Entry) → Fair c e → Fair c (on_reply c r x e).entry
 fair_reply c r (AwaitBoot n) e f = f

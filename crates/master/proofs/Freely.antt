@@ -1,5 +1,5 @@
 -- A work that finds a free place while Go: it puts a start that reaches the slave, or comes nearer to it.
-use Rattle.std.proofs.Common.{◌≡◌, ℕ, ◌<◌, ◌≤◌, Bool, true, false, ◌⊎◌, List, [], ◌∷◌, Some, count_by, sym, refl, ap, ◌∙◌, subst, inl, inr, ⊎_elim, arith}
+use Rattle.std.proofs.Common.{◌≡◌, ℕ, ◌<◌, ◌≤◌, Bool, true, false, ◌⊎◌, List, [], ◌∷◌, Some, count_by, sym, refl, ap, ◌∙◌, subst, inl, inr, ⊎_elim, arith, None}
 use Rattle.std.specs.Option.{option_map}
 use Rattle.std.proofs.lemmas.Bool.{cases_Bool, cases_eq, cond-true, cond-false, eq-eqb, ne_eqb}
 use Rattle.frames.specs.Contents.{Content}
@@ -20,7 +20,6 @@ use Rattle.master.specs.declared.types.Entry.{Entry}
 use Rattle.master.specs.declared.types.Phase.TheVariants.{Running}
 use Rattle.master.specs.declared.types.Plan.{Plan}
 use Rattle.master.specs.declared.types.Plan.TheVariants as plan
-use Rattle.master.specs.declared.types.Sweep.TheVariants.{Over}
 use Rattle.master.proofs.Agreement.{some_found, state}
 use Rattle.master.proofs.Origins.{Owed, due_next}
 use Rattle.master.proofs.Owing.{Other}
@@ -58,7 +57,7 @@ module _ (ls : SheetLines) (k : SlavesKeep ls.own 0 ls.slaves) (c : SlaveLines) 
 
   module _ (t : List Entry) (l : ℕ) (b : Bool) (n : ℕ) where
     abbrev now : State
-    now = state ls t Over l b n Running
+    now = state ls t None l b n Running
 
     low : 1 ≤ c.node
     low = (has e ls.own 0 ls.slaves c k is).low

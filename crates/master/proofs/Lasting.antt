@@ -11,8 +11,8 @@ use Rattle.master.specs.Session.{PortState, Machine, Call, hear, pass, work, tak
 use Rattle.master.specs.Step.{stepped}
 use Rattle.master.specs.Table.{entry_of, changed, change_by, applied_all}
 use Rattle.master.specs.Table.{fresh as fresh_entry}
-use Rattle.master.specs.declared.types.Brought.{Brought}
-use Rattle.master.specs.declared.types.Brought.TheVariants as brought
+use Rattle.master.specs.declared.types.Setback.{Setback}
+use Rattle.master.specs.declared.types.Setback.TheVariants as setback
 use Rattle.master.specs.declared.types.Change.{Change}
 use Rattle.master.specs.declared.types.Change.TheVariants as change
 use Rattle.master.specs.declared.types.Entry.{Entry}
@@ -42,14 +42,14 @@ module _ (ls : SheetLines) (k : SlavesKeep ls.own 0 ls.slaves) (P : SlaveLines �
       every_zip (λ c. P c (entry_of t c)) (λ c. entry_of (changed_by g t o) c ≡ cond (eqb c.node n) (g c (entry_of t c)) (entry_of t c)) (λ c. P c (entry_of (changed_by g t o) c)) ls.slaves
       (λ c p x. subst (P c) (sym x) (choose (P c) (eqb c.node n) (g c (entry_of t c)) (entry_of t c) (f c (entry_of t c) p) p)) h (spread g n ls.own ls.slaves k t l o e)
 
-  brought_holds : (b : Brought) (s : State) → Holds s → Holds (brought_by b s)
-  brought_holds brought.Nothing s h = h
-  brought_holds (brought.Missed l) s h = choose Holds (tries_anew l s) s (with_phase Halted s) h (record { lines = h.lines; long = h.long; each = h.each })
-  brought_holds brought.Lost s h =
-      choose Holds s.lines.stopall (with_phase StopDue s) (cond s.lines.resetall (with_sweep (Begun reset.Node) s) s) (record { lines = h.lines; long = h.long; each = h.each })
-      (choose Holds s.lines.resetall (with_sweep (Begun reset.Node) s) s (record { lines = h.lines; long = h.long; each = h.each }) h)
+  brought_holds : (b : Option Setback) (s : State) → Holds s → Holds (brought_by b s)
+  brought_holds None s h = h
+  brought_holds (Some (setback.Missed l)) s h = choose Holds (tries_anew l s) s (with_phase Halted s) h (record { lines = h.lines; long = h.long; each = h.each })
+  brought_holds (Some setback.Lost) s h =
+      choose Holds s.lines.stopall (with_phase StopDue s) (cond s.lines.resetall (with_sweep (Some (Begun reset.Node)) s) s) (record { lines = h.lines; long = h.long; each = h.each })
+      (choose Holds s.lines.resetall (with_sweep (Some (Begun reset.Node)) s) s (record { lines = h.lines; long = h.long; each = h.each }) h)
 
-  brings_holds : (m : Bool) (b : Brought) (s : State) → Holds s → Holds (brings m b s)
+  brings_holds : (m : Bool) (b : Option Setback) (s : State) → Holds s → Holds (brings m b s)
   brings_holds true b s h = brought_holds b s h
   brings_holds false b s h = h
 

@@ -23,7 +23,7 @@ use Rattle.master.specs.declared.types.Plan.TheVariants as plan
 use Rattle.master.specs.declared.types.Check.TheVariants.{Kind}
 use Rattle.master.specs.declared.types.ResetKind.TheVariants as reset
 use Rattle.master.specs.declared.types.Stage.TheVariants.{Ask}
-use Rattle.master.specs.declared.types.Sweep.TheVariants.{Over, Begun}
+use Rattle.master.specs.declared.types.Sweep.TheVariants.{Begun}
 use Rattle.master.proofs.Agreement.{Same, Agrees, live, stopping, halted, state, live_heard, still_idle}
 use Rattle.master.proofs.Clocking.{live_ticked}
 use Rattle.master.proofs.Origins.{origin}
@@ -54,9 +54,9 @@ module _ (ls : SheetLines) (k : SlavesKeep ls.own 0 ls.slaves) where
   put_agrees h s f q e (halted t w l b n i) = absurd (q refl)
 
   over_agrees : (h : List Event) (s : State) → Agrees ls h s → Agrees ls (h ++ []) (carried_out plan.Nothing s)
-  over_agrees h s (live t w l b n long same) = subst (λ z. Agrees ls z (carried_out plan.Nothing (state ls t w l b n Running))) (sym (append-nil h)) (live t Over l b n long same)
-  over_agrees h s (stopping t w l b n i) = subst (λ z. Agrees ls z (carried_out plan.Nothing (state ls t w l b n StopDue))) (sym (append-nil h)) (stopping t Over l b n i)
-  over_agrees h s (halted t w l b n i) = subst (λ z. Agrees ls z (carried_out plan.Nothing (state ls t w l b n Halted))) (sym (append-nil h)) (halted t Over l b n i)
+  over_agrees h s (live t w l b n long same) = subst (λ z. Agrees ls z (carried_out plan.Nothing (state ls t w l b n Running))) (sym (append-nil h)) (live t None l b n long same)
+  over_agrees h s (stopping t w l b n i) = subst (λ z. Agrees ls z (carried_out plan.Nothing (state ls t w l b n StopDue))) (sym (append-nil h)) (stopping t None l b n i)
+  over_agrees h s (halted t w l b n i) = subst (λ z. Agrees ls z (carried_out plan.Nothing (state ls t w l b n Halted))) (sym (append-nil h)) (halted t None l b n i)
 
   same_agrees : (h : List Event) (s : State) → Agrees ls h s → Agrees ls (h ++ []) s
   same_agrees h s a = subst (λ z. Agrees ls z s) (sym (append-nil h)) a
@@ -102,7 +102,7 @@ module _ (ls : SheetLines) (k : SlavesKeep ls.own 0 ls.slaves) where
   fresh_agrees =
       let t : List Entry = replicate 127 fresh_entry in
       let long : length t ≡ 127 = length-replicate 127 fresh_entry in
-      live (applied_all change.Begin ls.slaves t) (Begun reset.Communication) 0 false 0 (applied_long change.Begin ls.slaves t long)
+      live (applied_all change.Begin ls.slaves t) (Some (Begun reset.Communication)) 0 false 0 (applied_long change.Begin ls.slaves t long)
       (every_map (λ d. entry_of (applied_all change.Begin ls.slaves t) d ≡ change_by change.Begin d (entry_of t d)) (Same ls [] (applied_all change.Begin ls.slaves t)) ls.slaves (λ d e. ap seen e ∙ begin_seen d (entry_of t d) (get_d_fresh 127 (d.node - 1))) (spread_all change.Begin ls.own 0 ls.slaves t k long))
 
   -- after every row of calls

@@ -6,6 +6,7 @@ pub mod Clocking
 pub mod Fairness
 pub mod Freely
 pub mod Hearing
+pub mod Kept
 pub mod Lasting
 pub mod Leading
 pub mod Ordering
@@ -14,11 +15,11 @@ pub mod Owing
 pub mod Pending
 pub mod Permitted
 pub mod Permitting
-pub mod Planning
 pub mod Putting
 pub mod Rowing
+pub mod Searching
 pub mod Seeing
-pub mod Setting
+pub mod Signs
 pub mod Shortcuts
 pub mod Spread
 pub mod Standing

@@ -15,7 +15,7 @@ use Rattle.master.specs.declared.types.Plan.TheVariants as plan
 use Rattle.master.specs.declared.types.Quality.TheVariants as quality
 use Rattle.master.specs.declared.types.ResetKind.{ResetKind}
 use Rattle.master.specs.declared.types.Sweep.{Sweep}
-use Rattle.master.specs.declared.types.Sweep.TheVariants.{Over, Begun, Singles}
+use Rattle.master.specs.declared.types.Sweep.TheVariants.{Begun, Singles}
 use Rattle.master.specs.Record.{Every}
 use Rattle.master.proofs.Spread.{found}
 
@@ -103,14 +103,14 @@ module _ (s : State) (k : SlavesKeep s.lines.own 0 s.lines.slaves) where
   single_origin : (r : ResetKind) (m : ℕ) → Origin s (single_plan s r m)
   single_origin r m = single (127 - m) m (single_after s (127 - m) m) refl r
 
-  sweep_origin : (w : Sweep) → Origin s (sweep_plan s w)
-  sweep_origin Over = duty_origin
-  sweep_origin (Begun r) =
+  sweep_origin : (w : Option Sweep) → Origin s (sweep_plan s w)
+  sweep_origin None = duty_origin
+  sweep_origin (Some (Begun r)) =
       ⊎_elim
       (λ t. subst (Origin s) (sym (cond-true _ (single_plan s r 0) (plan.ResetAll r) t)) (single_origin r 0))
       (λ f. subst (Origin s) (sym (cond-false _ (single_plan s r 0) (plan.ResetAll r) f)) (ltb-false 0 (counted quality.Spared s) f))
       (cases_Bool (ltb 0 (counted quality.Spared s)))
-  sweep_origin (Singles r m) = single_origin r m
+  sweep_origin (Some (Singles r m)) = single_origin r m
 
   phase_origin : (p : Phase) → s.phase ≡ p → Origin s (phase_plan s p)
   phase_origin Running e = sweep_origin s.sweep

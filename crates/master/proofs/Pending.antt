@@ -1,5 +1,5 @@
 -- While a sweep is under way, a listed slave is not cleared and has no request open: so there is no Go.
-use Rattle.std.proofs.Common.{◌≡◌, ℕ, ◌+◌, ◌-◌, ◌%◌, min, Bool, true, false, cond, ◌&&◌, eqb, ltb, ◌⊎◌, List, [], ◌∷◌, length, replicate, Some, None, count_by, Option, sym, refl, ap, ◌∙◌, subst, inl, inr, ⊎_elim, arith}
+use Rattle.std.proofs.Common.{◌≡◌, ℕ, ◌+◌, ◌-◌, ◌%◌, min, Bool, true, false, cond, ◌&&◌, eqb, ltb, ◌⊎◌, List, [], ◌∷◌, length, replicate, Some, None, count_by, Option, sym, refl, ap, ◌∙◌, subst, inl, inr, ⊎_elim, arith, Err, Ok, Result}
 use lib.ListN.{length-replicate}
 use Rattle.frames.specs.Contents.{Content}
 use Rattle.frames.specs.Lists.{accepts}
@@ -16,8 +16,8 @@ use Rattle.master.specs.Session.{PortState, Machine, Call, hear, pass, work, tak
 use Rattle.master.specs.Step.{stepped, on_beat, on_sign, on_reply, on_tick, decided, to, is_passed, is_cleared}
 use Rattle.master.specs.Table.{entry_of, changed, change_by, applied_all}
 use Rattle.master.specs.Table.{fresh as fresh_entry}
-use Rattle.master.specs.declared.types.Brought.{Brought}
-use Rattle.master.specs.declared.types.Brought.TheVariants as brought
+use Rattle.master.specs.declared.types.Setback.{Setback}
+use Rattle.master.specs.declared.types.Setback.TheVariants as setback
 use Rattle.master.specs.declared.types.Change.{Change}
 use Rattle.master.specs.declared.types.Change.TheVariants as change
 use Rattle.master.specs.declared.types.Check.{Check}
@@ -38,9 +38,7 @@ use Rattle.master.specs.declared.types.Stage.{Stage}
 use Rattle.master.specs.declared.types.Stage.TheVariants.{AwaitBoot, Ask, Asked, ListenState, ListenControl, Passed, Retry, ResetDue}
 use Rattle.master.specs.declared.types.Stepped.{Stepped}
 use Rattle.master.specs.declared.types.Sweep.{Sweep}
-use Rattle.master.specs.declared.types.Sweep.TheVariants.{Over, Begun, Singles}
-use Rattle.master.specs.declared.types.Verdict.{Verdict}
-use Rattle.master.specs.declared.types.Verdict.TheVariants.{Met, Missed}
+use Rattle.master.specs.declared.types.Sweep.TheVariants.{Begun, Singles}
 use Rattle.master.specs.declared.types.Word.{Word}
 use Rattle.master.proofs.Choosing.{choose, no}
 use Rattle.master.proofs.Agreement.{SomeOne, some_found}
@@ -140,20 +138,20 @@ step_stuck c e (input.Replied r) p = reply_stuck c e.booted e.result e.once p.un
 step_stuck c e input.Tick p = tick_stuck c e.booted e.result e.once p.uncl e.word e.stage p.stage
 
 -- a lost slave is stuck
-pub lost_stuck : (c : SlaveLines) (e : Entry) (i : Input) → (stepped c e i).brought ≡ brought.Lost → c.mandatory ≡ true → Stuck c (stepped c e i).entry
+pub lost_stuck : (c : SlaveLines) (e : Entry) (i : Input) → (stepped c e i).brought ≡ (Some setback.Lost) → c.mandatory ≡ true → Stuck c (stepped c e i).entry
 lost_stuck c e i h m = record { stage = go c e i h; uncl = inl m }
   where
-    tells : (b : Bool) (x y : Stepped) → (x.brought ≡ brought.Lost → idles x.entry.stage ≡ true) → (y.brought ≡ brought.Lost → idles y.entry.stage ≡ true) → (cond b x y).brought ≡ brought.Lost → idles (cond b x y).entry.stage ≡ true
+    tells : (b : Bool) (x y : Stepped) → (x.brought ≡ (Some setback.Lost) → idles x.entry.stage ≡ true) → (y.brought ≡ (Some setback.Lost) → idles y.entry.stage ≡ true) → (cond b x y).brought ≡ (Some setback.Lost) → idles (cond b x y).entry.stage ≡ true
     tells true x y p q e = p e
     tells false x y p q e = q e
 
-    nope : {X : Type 0} (l : Letter) → brought.Missed l ≡ brought.Lost → X
+    nope : {X : Type 0} (l : Letter) → Some (setback.Missed l) ≡ (Some setback.Lost) → X
     nope l e = let z : ◌≡◌ {A = ℕ} 0 1 = cc in absurd (omega arith)
 
-    nil : {X : Type 0} → brought.Nothing ≡ brought.Lost → X
+    nil : {X : Type 0} → None ≡ (Some setback.Lost) → X
     nil e = let z : ◌≡◌ {A = ℕ} 0 1 = cc in absurd (omega arith)
 
-    tick_passes : (c : SlaveLines) (x : Stage) (e : Entry) → (on_tick c x e).brought ≡ brought.Lost → idles (on_tick c x e).entry.stage ≡ true
+    tick_passes : (c : SlaveLines) (x : Stage) (e : Entry) → (on_tick c x e).brought ≡ (Some setback.Lost) → idles (on_tick c x e).entry.stage ≡ true
     tick_passes c (AwaitBoot None) e h = nil h
     tick_passes c (AwaitBoot (Some n)) e h = nil h
     tick_passes c (Ask k) e h = nil h
@@ -164,11 +162,11 @@ lost_stuck c e i h m = record { stage = go c e i h; uncl = inl m }
     tick_passes c (Retry n) e h = nil h
     tick_passes c (ResetDue k) e h = nil h
 
-    on_decided : (c : SlaveLines) (k : Check) (v : Verdict) (e : Entry) → (decided c k v e).brought ≡ brought.Lost → idles (decided c k v e).entry.stage ≡ true
-    on_decided c k Met e h = nil h
-    on_decided c k (Missed l) e h = nope l h
+    on_decided : (c : SlaveLines) (k : Check) (v : Result (Unit {0}) Letter) (e : Entry) → (decided c k v e).brought ≡ (Some setback.Lost) → idles (decided c k v e).entry.stage ≡ true
+    on_decided c k (Ok u) e h = nil h
+    on_decided c k (Err l) e h = nope l h
 
-    reply_is_heard : (c : SlaveLines) (r : Reply) (x : Stage) (e : Entry) → (on_reply c r x e).brought ≡ brought.Lost → idles (on_reply c r x e).entry.stage ≡ true
+    reply_is_heard : (c : SlaveLines) (r : Reply) (x : Stage) (e : Entry) → (on_reply c r x e).brought ≡ (Some setback.Lost) → idles (on_reply c r x e).entry.stage ≡ true
     reply_is_heard c r (AwaitBoot n) e h = nil h
     reply_is_heard c r (Ask k) e h = nil h
     reply_is_heard c r (Asked k n) e h = on_decided c k (verdict_of c k r) e h
@@ -178,15 +176,15 @@ lost_stuck c e i h m = record { stage = go c e i h; uncl = inl m }
     reply_is_heard c r (Retry n) e h = nil h
     reply_is_heard c r (ResetDue k) e h = nil h
 
-    go : (c : SlaveLines) (e : Entry) (i : Input) → (stepped c e i).brought ≡ brought.Lost → idles (stepped c e i).entry.stage ≡ true
+    go : (c : SlaveLines) (e : Entry) (i : Input) → (stepped c e i).brought ≡ (Some setback.Lost) → idles (stepped c e i).entry.stage ≡ true
     go c e (input.Heard s) h = nil h
     go c e (input.Replied r) h = reply_is_heard c r e.stage e h
     go c e input.Tick h = tick_passes c e.stage e h
 
 module _ (ls : SheetLines) (k : SlavesKeep ls.own 0 ls.slaves) where
   -- no sweep is under way, or a slave is stuck, or none is listed
-  abbrev Waits : List Entry → Sweep → Type 0
-  Waits t w = (w ≡ Over) ⊎ (SomeOne (λ c. Stuck c (entry_of t c)) ls.slaves ⊎ (ls.slaves ≡ []))
+  abbrev Waits : List Entry → Option Sweep → Type 0
+  Waits t w = (w ≡ None) ⊎ (SomeOne (λ c. Stuck c (entry_of t c)) ls.slaves ⊎ (ls.slaves ≡ []))
 
   pub record Ready (s : State) : Type 0 where
     pub lines : s.lines ≡ ls
@@ -198,20 +196,20 @@ module _ (ls : SheetLines) (k : SlavesKeep ls.own 0 ls.slaves) where
       some_zip (λ c. entry_of (changed_by g t o) c ≡ cond (eqb c.node n) (g c (entry_of t c)) (entry_of t c)) (λ c. Stuck c (entry_of t c)) (λ c. Stuck c (entry_of (changed_by g t o) c)) ls.slaves
       (λ c x p. subst (Stuck c) (sym x) (choose (Stuck c) (eqb c.node n) (g c (entry_of t c)) (entry_of t c) (f c (entry_of t c) p) p)) (spread g n ls.own ls.slaves k t l o e) h
 
-  waits_one : (g : SlaveLines → Entry → Entry) → ((c : SlaveLines) (e : Entry) → Stuck c e → Stuck c (g c e)) → (n : ℕ) (t : List Entry) (w : Sweep) → length t ≡ 127 → (o : Option SlaveLines) → slave_by n ls.slaves ≡ o → Waits t w → Waits (changed_by g t o) w
+  waits_one : (g : SlaveLines → Entry → Entry) → ((c : SlaveLines) (e : Entry) → Stuck c e → Stuck c (g c e)) → (n : ℕ) (t : List Entry) (w : Option Sweep) → length t ≡ 127 → (o : Option SlaveLines) → slave_by n ls.slaves ≡ o → Waits t w → Waits (changed_by g t o) w
   waits_one g f n t w l o e (inl x) = inl x
   waits_one g f n t w l o e (inr (inl x)) = inr (inl (one g f n t l o e x))
   waits_one g f n t w l o e (inr (inr x)) = inr (inr x)
 
   -- what a step brings, with a slave that is stuck if a sweep begins
-  brought_ready : (b : Brought) (s : State) → Ready s → (b ≡ brought.Lost → SomeOne (λ c. Stuck c (entry_of s.entries c)) ls.slaves) → Ready (brought_by b s)
-  brought_ready brought.Nothing s h f = h
-  brought_ready (brought.Missed l) s h f = choose Ready (tries_anew l s) s (with_phase Halted s) h (record { lines = h.lines; long = h.long; waits = h.waits })
-  brought_ready brought.Lost s h f =
-      choose Ready s.lines.stopall (with_phase StopDue s) (cond s.lines.resetall (with_sweep (Begun reset.Node) s) s) (record { lines = h.lines; long = h.long; waits = h.waits })
-      (choose Ready s.lines.resetall (with_sweep (Begun reset.Node) s) s (record { lines = h.lines; long = h.long; waits = inr (inl (f refl)) }) h)
+  brought_ready : (b : Option Setback) (s : State) → Ready s → (b ≡ (Some setback.Lost) → SomeOne (λ c. Stuck c (entry_of s.entries c)) ls.slaves) → Ready (brought_by b s)
+  brought_ready None s h f = h
+  brought_ready (Some (setback.Missed l)) s h f = choose Ready (tries_anew l s) s (with_phase Halted s) h (record { lines = h.lines; long = h.long; waits = h.waits })
+  brought_ready (Some setback.Lost) s h f =
+      choose Ready s.lines.stopall (with_phase StopDue s) (cond s.lines.resetall (with_sweep (Some (Begun reset.Node)) s) s) (record { lines = h.lines; long = h.long; waits = h.waits })
+      (choose Ready s.lines.resetall (with_sweep (Some (Begun reset.Node)) s) s (record { lines = h.lines; long = h.long; waits = inr (inl (f refl)) }) h)
 
-  brings_ready : (m : Bool) (b : Brought) (s : State) → Ready s → (m ≡ true → b ≡ brought.Lost → SomeOne (λ c. Stuck c (entry_of s.entries c)) ls.slaves) → Ready (brings m b s)
+  brings_ready : (m : Bool) (b : Option Setback) (s : State) → Ready s → (m ≡ true → b ≡ (Some setback.Lost) → SomeOne (λ c. Stuck c (entry_of s.entries c)) ls.slaves) → Ready (brings m b s)
   brings_ready true b s h f = brought_ready b s h (f refl)
   brings_ready false b s h f = h
 
@@ -265,11 +263,11 @@ module _ (ls : SheetLines) (k : SlavesKeep ls.own 0 ls.slaves) where
   Swept s plan.Nothing = Unit {0}
   Swept s plan.Stop = Unit {0}
   Swept s (plan.ResetAll r) = Unit {0}
-  Swept s (plan.ResetOne r n) = s.sweep ≡ Over → ⊥
+  Swept s (plan.ResetOne r n) = s.sweep ≡ None → ⊥
   Swept s (plan.Serve n d) = Unit {0}
   Swept s (plan.StartAll n) = Unit {0}
 
-  while : (s : State) (p : Plan) → (s.sweep ≡ Over → ⊥) → Swept s p
+  while : (s : State) (p : Plan) → (s.sweep ≡ None → ⊥) → Swept s p
   while s plan.Nothing f = tt
   while s plan.Stop f = tt
   while s (plan.ResetAll r) f = tt
@@ -286,10 +284,10 @@ module _ (ls : SheetLines) (k : SlavesKeep ls.own 0 ls.slaves) where
   duty_swept s None = tt
   duty_swept s (Some p) = serve_swept s p.0 p.1
 
-  sweep_swept : (s : State) (w : Sweep) → s.sweep ≡ w → Swept s (sweep_plan s w)
-  sweep_swept s Over e = duty_swept s (next_due s)
-  sweep_swept s (Begun r) e = while s (sweep_plan s (Begun r)) (λ x. let y = sym e ∙ x in let z : ◌≡◌ {A = ℕ} 0 1 = cc in omega arith)
-  sweep_swept s (Singles r m) e = while s (sweep_plan s (Singles r m)) (λ x. let y = sym e ∙ x in let z : ◌≡◌ {A = ℕ} 0 1 = cc in omega arith)
+  sweep_swept : (s : State) (w : Option Sweep) → s.sweep ≡ w → Swept s (sweep_plan s w)
+  sweep_swept s None e = duty_swept s (next_due s)
+  sweep_swept s (Some (Begun r)) e = while s (sweep_plan s (Some (Begun r))) (λ x. let y = sym e ∙ x in let z : ◌≡◌ {A = ℕ} 0 1 = cc in omega arith)
+  sweep_swept s (Some (Singles r m)) e = while s (sweep_plan s (Some (Singles r m))) (λ x. let y = sym e ∙ x in let z : ◌≡◌ {A = ℕ} 0 1 = cc in omega arith)
 
   phase_swept : (s : State) (p : Phase) → Swept s (phase_plan s p)
   phase_swept s Running = sweep_swept s s.sweep refl
@@ -306,7 +304,7 @@ module _ (ls : SheetLines) (k : SlavesKeep ls.own 0 ls.slaves) where
       record {
         lines = h.lines;
         long = one_long change.Reset o s.entries h.long;
-        waits = subst (λ z. Waits z (Singles r n)) (to_one change.Reset o s.entries) (⊎_elim (λ x. absurd (q x)) (λ x. waits_one (change_by change.Reset) reset_stuck n s.entries (Singles r n) h.long o e (inr x)) h.waits);
+        waits = subst (λ z. Waits z (Some (Singles r n))) (to_one change.Reset o s.entries) (⊎_elim (λ x. absurd (q x)) (λ x. waits_one (change_by change.Reset) reset_stuck n s.entries (Some (Singles r n)) h.long o e (inr x)) h.waits);
       }
   carried_ready (plan.Serve n d) s q h = record { lines = h.lines; long = one_long (change_for s.lines.wait d) (slave_by n s.lines.slaves) s.entries h.long; waits = inl refl }
   carried_ready (plan.StartAll n) s q h = record { lines = h.lines; long = applied_long change.Start s.lines.slaves s.entries h.long; waits = inl refl }
@@ -347,7 +345,7 @@ module _ (ls : SheetLines) (k : SlavesKeep ls.own 0 ls.slaves) where
   some_none P cs n c e x = let y = ap (slave_by n) (sym x) ∙ e in let z : ◌≡◌ {A = ℕ} 0 1 = cc in omega arith
 
   -- while Go and a slave is listed, no sweep is under way
-  pub swept_out : (s : State) → Ready s → going s ≡ true → (n : ℕ) (c : SlaveLines) → slave_by n ls.slaves ≡ Some c → s.sweep ≡ Over
+  pub swept_out : (s : State) → Ready s → going s ≡ true → (n : ℕ) (c : SlaveLines) → slave_by n ls.slaves ≡ Some c → s.sweep ≡ None
   swept_out s h g n c e =
       ⊎_elim (λ x. x)
       (λ y. ⊎_elim

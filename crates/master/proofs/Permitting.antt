@@ -1,5 +1,5 @@
 -- Every frame that a work puts is one that the record before it permits.
-use Rattle.std.proofs.Common.{◌≡◌, ℕ, ◌≤◌, Bool, true, false, cond, not, ◌&&◌, eqb, List, length, Some, None, sym, refl, ap, ◌∙◌, subst, arith}
+use Rattle.std.proofs.Common.{◌≡◌, ℕ, ◌≤◌, Bool, true, false, cond, not, ◌&&◌, eqb, List, length, Some, None, sym, refl, ap, ◌∙◌, subst, arith, Option}
 use Rattle.std.specs.Option.{option_map}
 use Rattle.std.proofs.lemmas.Bool.{and_parts, not-true, eqb-true}
 use Rattle.frames.specs.Contents.{Content}
@@ -87,7 +87,7 @@ reset_no_start reset.Communication n m a b = let y = sym (ap (λ (z : NmtMessage
 pub other_no_reset : {X : Type 0} (c : Command) (n : ℕ) (m : NmtMessage) → is_reset c ≡ false → m ≡ record { command = c; node = n } → is_reset m.command ≡ true → X
 other_no_reset c n m f a b = let y = sym (ap (λ (z : NmtMessage). is_reset z.command) a) ∙ b in let w = sym f ∙ y in let z : ◌≡◌ {A = ℕ} 0 1 = cc in absurd (omega arith)
 
-module _ (ls : SheetLines) (k : SlavesKeep ls.own 0 ls.slaves) (h : List Event) (t : List Entry) (w : Sweep) (l : ℕ) (b : Bool) (n : ℕ) (same : Every (Same ls h t) ls.slaves) (fair : Every (λ c. Fair c (entry_of t c)) ls.slaves) where
+module _ (ls : SheetLines) (k : SlavesKeep ls.own 0 ls.slaves) (h : List Event) (t : List Entry) (w : Option Sweep) (l : ℕ) (b : Bool) (n : ℕ) (same : Every (Same ls h t) ls.slaves) (fair : Every (λ c. Fair c (entry_of t c)) ls.slaves) where
   abbrev now : State
   now = state ls t w l b n Running
 

@@ -1,5 +1,5 @@
 -- An entry as the record reads its slave, and that what happens to the one happens to the other.
-use Rattle.std.proofs.Common.{◌≡◌, ℕ, ◌+◌, ◌-◌, Bool, true, false, cond, not, ◌&&◌, eqb, ltb, length, Some, None, Option, refl, ap}
+use Rattle.std.proofs.Common.{◌≡◌, ℕ, ◌+◌, ◌-◌, Bool, true, false, cond, not, ◌&&◌, eqb, ltb, length, Some, None, Option, refl, ap, Err, Ok, Result}
 use Rattle.frames.specs.declared.error_control.Sign.{Sign}
 use Rattle.frames.specs.declared.error_control.Sign.TheVariants as sign
 use Rattle.frames.specs.declared.sdo.Reply.{Reply}
@@ -17,8 +17,6 @@ use Rattle.master.specs.declared.types.ResetKind.TheVariants as reset
 use Rattle.master.specs.declared.types.Stage.{Stage}
 use Rattle.master.specs.declared.types.Stage.TheVariants.{AwaitBoot, Ask, Asked, ListenState, ListenControl, Passed, Retry, ResetDue}
 use Rattle.master.specs.declared.types.Stepped.{Stepped}
-use Rattle.master.specs.declared.types.Verdict.{Verdict}
-use Rattle.master.specs.declared.types.Verdict.TheVariants.{Met, Missed}
 use Rattle.master.specs.declared.types.Word.{Word}
 use Rattle.master.specs.declared.types.Word.TheVariants.{Stopped, Operational, PreOperational}
 
@@ -167,9 +165,9 @@ seen_onward c next.ListenState e h = refl
 seen_onward c next.ListenControl e h = refl
 seen_onward c next.Pass e h = refl
 
-seen_decided : (c : SlaveLines) (k : Check) (v : Verdict) (e : Entry) → seen (decided c k v e).entry ≡ judged_by c k v (seen e)
-seen_decided c k Met e = seen_onward c (following c e.booted k) e (later c e.booted k)
-seen_decided c k (Missed l) e = refl
+seen_decided : (c : SlaveLines) (k : Check) (v : Result (Unit {0}) Letter) (e : Entry) → seen (decided c k v e).entry ≡ judged_by c k v (seen e)
+seen_decided c k (Ok u) e = seen_onward c (following c e.booted k) e (later c e.booted k)
+seen_decided c k (Err l) e = refl
 
 -- an answer that fits the open request
 pub seen_reply : (c : SlaveLines) (k : Check) (left : ℕ) (r : Reply) (e : Entry) → seen (on_reply c r (Asked k left) e).entry ≡ judged_by c k (verdict_of c k r) (seen e)

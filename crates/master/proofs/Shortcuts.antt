@@ -1,7 +1,5 @@
 -- Why the code's short ways lead where the long ones do.
 use Rattle.std.proofs.Common.{◌≡◌, ℕ, zero, suc, ◌<◌, Bool, true, false, List, [], ◌∷◌, length, get_or, take, drop, is_some, Some, None, Option, sym, refl, ap, ◌∙◌, arith}
-use Rattle.std.specs.Option.{option_map}
-use Rattle.std.proofs.lemmas.List.{take_all}
 use Rattle.sheet.specs.Format.{SlaveLines}
 use Rattle.sheet.specs.Rules.{SlavesKeep}
 use Rattle.master.specs.Network.{State, slave_by, counted, going, first_due, due_or, next_due, or_else}
@@ -16,13 +14,13 @@ use Rattle.master.specs.declared.types.Stage.{Stage}
 use Rattle.master.specs.declared.types.Stage.TheVariants.{AwaitBoot, Ask, Asked, ListenState, ListenControl, Passed, Retry, ResetDue}
 use Rattle.master.proofs.Origins.{known, every_take, every_drop}
 
-every_at : (P : SlaveLines → Type 0) (cs : List SlaveLines) (i : ℕ) → i < length cs → Every P cs → P (get_or cs i blank)
+pub every_at : (P : SlaveLines → Type 0) (cs : List SlaveLines) (i : ℕ) → i < length cs → Every P cs → P (get_or cs i blank)
 every_at P [] i h e = absurd (omega arith)
 every_at P (c ∷ cs) zero h e = e.0
 every_at P (c ∷ cs) (suc i) h e = every_at P cs i (omega arith) e.1
 
 -- A place where the slave has the node is the node's: no two slaves have one node.
-pub hinted : (own : ℕ) (cs : List SlaveLines) → SlavesKeep own 0 cs → (i n : ℕ) (x : SlaveLines) → i < length cs → x ≡ get_or cs i blank → x.node ≡ n → option_map (λ p. get_or cs p blank) (Some i) ≡ slave_by n cs
+pub hinted : (own : ℕ) (cs : List SlaveLines) → SlavesKeep own 0 cs → (i n : ℕ) (x : SlaveLines) → i < length cs → x ≡ get_or cs i blank → x.node ≡ n → Some (get_or cs i blank) ≡ slave_by n cs
 hinted own cs k i n x inside is at =
     sym (every_at (λ d. slave_by d.node cs ≡ Some d) cs i inside (known own 0 cs k)) ∙ ap (λ m. slave_by m cs) (ap (λ (d : SlaveLines). d.node) (sym is) ∙ at)
 
@@ -60,7 +58,3 @@ nobody_due s h =
     let cs : List SlaveLines = s.lines.slaves in
     let all = nothing s.entries cs h in
     sym (ap (λ o. or_else o (first_due (going s) s.entries (take k cs))) (none_due (going s) s.entries (drop k cs) (every_drop (OwedNothing s.entries) k cs all)) ∙ none_due (going s) s.entries (take k cs) (every_take (OwedNothing s.entries) k cs all))
-
--- all listed slaves, as the code cuts them out
-pub all_due : (t : List Entry) (n : ℕ) (cs : List SlaveLines) (o : Option (ℕ × Duty)) (b : Bool) → n ≡ length cs → o ≡ first_due true t (drop 0 (take n cs)) → b ≡ is_some o → b ≡ is_some (first_due true t cs)
-all_due t n cs o b e d g = g ∙ ap is_some (d ∙ ap (first_due true t) (take_all n cs (omega arith)))

@@ -13,8 +13,8 @@ use Rattle.master.specs.FromPort.{LeadsFrom, fresh, then}
 use Rattle.master.specs.Session.{PortState, Machine, Call, hear, pass, work, take, Worked, placed, idle, refused, Step, hears, passes, works, takes, placing, after, step_of, noted, record_of, free_of, free_works, StartIn}
 use Rattle.master.specs.Step.{stepped, duty_of}
 use Rattle.master.specs.Table.{entry_of, changed}
-use Rattle.master.specs.declared.types.Brought.{Brought}
-use Rattle.master.specs.declared.types.Brought.TheVariants as brought
+use Rattle.master.specs.declared.types.Setback.{Setback}
+use Rattle.master.specs.declared.types.Setback.TheVariants as setback
 use Rattle.master.specs.declared.types.Duty.TheVariants as duty
 use Rattle.master.specs.declared.types.Entry.{Entry}
 use Rattle.master.specs.declared.types.Input.{Input}
@@ -22,7 +22,7 @@ use Rattle.master.specs.declared.types.Input.TheVariants as input
 use Rattle.master.specs.declared.types.Phase.TheVariants.{Running, StopDue, Halted}
 use Rattle.master.specs.declared.types.Plan.TheVariants as plan
 use Rattle.master.specs.declared.types.ResetKind.TheVariants as reset
-use Rattle.master.specs.declared.types.Sweep.TheVariants.{Over, Begun}
+use Rattle.master.specs.declared.types.Sweep.TheVariants.{Begun}
 use Rattle.master.proofs.Choosing.{choose}
 use Rattle.master.proofs.Agreement.{Same, Agrees, live, stopping, halted, state, pushed, every_found}
 use Rattle.master.proofs.Clearing.{go_law, dead_closed, count_none}
@@ -34,12 +34,12 @@ use Rattle.master.proofs.Seeing.{try_of}
 use Rattle.master.proofs.Turning.{in_arc, arc_self}
 
 -- what is heard and what ticks does not change who was served last
-brought_last : (b : Brought) (s : State) → (brought_by b s).last ≡ s.last
-brought_last brought.Nothing s = refl
-brought_last (brought.Missed l) s = choose (λ (u : State). u.last ≡ s.last) (tries_anew l s) s (with_phase Halted s) refl refl
-brought_last brought.Lost s = choose (λ (u : State). u.last ≡ s.last) s.lines.stopall (with_phase StopDue s) (cond s.lines.resetall (with_sweep (Begun reset.Node) s) s) refl (choose (λ (u : State). u.last ≡ s.last) s.lines.resetall (with_sweep (Begun reset.Node) s) s refl refl)
+brought_last : (b : Option Setback) (s : State) → (brought_by b s).last ≡ s.last
+brought_last None s = refl
+brought_last (Some (setback.Missed l)) s = choose (λ (u : State). u.last ≡ s.last) (tries_anew l s) s (with_phase Halted s) refl refl
+brought_last (Some setback.Lost) s = choose (λ (u : State). u.last ≡ s.last) s.lines.stopall (with_phase StopDue s) (cond s.lines.resetall (with_sweep (Some (Begun reset.Node)) s) s) refl (choose (λ (u : State). u.last ≡ s.last) s.lines.resetall (with_sweep (Some (Begun reset.Node)) s) s refl refl)
 
-brings_last : (m : Bool) (b : Brought) (s : State) → (brings m b s).last ≡ s.last
+brings_last : (m : Bool) (b : Option Setback) (s : State) → (brings m b s).last ≡ s.last
 brings_last true b s = brought_last b s
 brings_last false b s = refl
 
@@ -93,12 +93,12 @@ module _ (ls : SheetLines) (k : SlavesKeep ls.own 0 ls.slaves) (c : SlaveLines) 
       (stay h m.net (works (accepts m.port.most m.port.waiting) (refused 13)) m.net (ap (λ b. cond b 1 0) r) refl (λ _. owed_same h w))
 
   -- a work with room, while Go
-  with_room : (h : List Event) (t : List Entry) (l : ℕ) (b : Bool) (n : ℕ) (p : PortState) → accepts p.most p.waiting ≡ true → is_owed ls c h ≡ true → Turned ls k c e is (state ls t Over l b n Running)
-      → (o : Option Content) → plan_content ls.slaves (planned (state ls t Over l b n Running)) ≡ o
-      → Goes h (state ls t Over l b n Running) (works (accepts p.most p.waiting) (placing o (record { net = state ls t Over l b n Running; port = p })).0) (placing o (record { net = state ls t Over l b n Running; port = p })).1.net
+  with_room : (h : List Event) (t : List Entry) (l : ℕ) (b : Bool) (n : ℕ) (p : PortState) → accepts p.most p.waiting ≡ true → is_owed ls c h ≡ true → Turned ls k c e is (state ls t None l b n Running)
+      → (o : Option Content) → plan_content ls.slaves (planned (state ls t None l b n Running)) ≡ o
+      → Goes h (state ls t None l b n Running) (works (accepts p.most p.waiting) (placing o (record { net = state ls t None l b n Running; port = p })).0) (placing o (record { net = state ls t None l b n Running; port = p })).1.net
   with_room h t l b n p r w q None x = absurd (let y = sym q.content ∙ x in let z : ◌≡◌ {A = ℕ} 0 1 = cc in omega arith)
   with_room h t l b n p r w q (Some f) x =
-      let now : State = state ls t Over l b n Running in
+      let now : State = state ls t None l b n Running in
       let f_is : q.frame ≡ f = let y = sym q.content ∙ x in cc in
       let done : Worked × Machine = (placed f, record { net = carried_out (planned now) now; port = record { waiting = p.waiting ++ f ∷ []; most = p.most; gap = p.gap; pause = p.pause } }) in
       let step : works true (placed f) ≡ works (accepts p.most p.waiting) (placed f) = ap (λ z. works z (placed f)) (sym r) in
@@ -121,14 +121,14 @@ module _ (ls : SheetLines) (k : SlavesKeep ls.own 0 ls.slaves) (c : SlaveLines) 
   -- while Go the master runs, with no sweep under way
   work_goes : (h : List Event) (s : State) (p : PortState) → Agrees ls h s → Ready ls k s → going s ≡ true → is_owed ls c h ≡ true → Goes h s (step_of work (record { net = s; port = p })) (after work (record { net = s; port = p })).net
   work_goes h s p (live t w l b n long same) r g o =
-      let over : w ≡ Over = swept_out ls k (state ls t w l b n Running) r g e c is in
+      let over : w ≡ None = swept_out ls k (state ls t w l b n Running) r g e c is in
       subst (λ z. Goes h (state ls t z l b n Running) (step_of work (record { net = state ls t z l b n Running; port = p })) (after work (record { net = state ls t z l b n Running; port = p })).net) (sym over)
       (⊎_elim
       (λ y.
       let at : owes_start (try_of (entry_of t c).stage) ≡ true = ap (λ (x : Reading). owes_start x.at) (every_found (Same ls h t) e ls.slaves c is same) ∙ o in
-      let due : duty_of (going (state ls t Over l b n Running)) (entry_of t c).stage ≡ Some duty.Start = ap (λ z. duty_of z (entry_of t c).stage) g ∙ start_owed (entry_of t c).stage at in
-      with_room h t l b n p y o (turned ls k c e is t l b n due) (plan_content ls.slaves (planned (state ls t Over l b n Running))) refl)
-      (λ y. inr (no_room h (record { net = state ls t Over l b n Running; port = p }) (plan_content ls.slaves (planned (state ls t Over l b n Running))) y o))
+      let due : duty_of (going (state ls t None l b n Running)) (entry_of t c).stage ≡ Some duty.Start = ap (λ z. duty_of z (entry_of t c).stage) g ∙ start_owed (entry_of t c).stage at in
+      with_room h t l b n p y o (turned ls k c e is t l b n due) (plan_content ls.slaves (planned (state ls t None l b n Running))) refl)
+      (λ y. inr (no_room h (record { net = state ls t None l b n Running; port = p }) (plan_content ls.slaves (planned (state ls t None l b n Running))) y o))
       (cases_Bool (accepts p.most p.waiting)))
   work_goes h s p (stopping t w l b n i) r g o = absurd (let y = sym g ∙ dead_closed ls h t l i in let z : ◌≡◌ {A = ℕ} 0 1 = cc in omega arith)
   work_goes h s p (halted t w l b n i) r g o = absurd (let y = sym g ∙ dead_closed ls h t l i in let z : ◌≡◌ {A = ℕ} 0 1 = cc in omega arith)

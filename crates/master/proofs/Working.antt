@@ -26,7 +26,7 @@ use Rattle.master.specs.declared.types.Plan.TheVariants as plan
 use Rattle.master.specs.declared.types.Stage.{Stage}
 use Rattle.master.specs.declared.types.Stage.TheVariants.{AwaitBoot, Ask, Asked, ListenState, ListenControl, Passed, Retry, ResetDue}
 use Rattle.master.specs.declared.types.Sweep.{Sweep}
-use Rattle.master.specs.declared.types.Sweep.TheVariants.{Over, Singles}
+use Rattle.master.specs.declared.types.Sweep.TheVariants.{Singles}
 use Rattle.master.proofs.Agreement.{Same, Agrees, live, state}
 use Rattle.master.proofs.Origins.{Owed, Origin}
 use Rattle.master.proofs.Putting.{read_nmt, reach_all, reach_one, seen_reset, seen_start, read_own, read_other, put_one, put_all}
@@ -53,7 +53,7 @@ applied_to_long : (g : Change) (o : Option SlaveLines) (t : List Entry) → leng
 applied_to_long g None t l = l
 applied_to_long g (Some c) t l = changed_long t c (change_by g c (entry_of t c)) l
 
-module _ (ls : SheetLines) (k : SlavesKeep ls.own 0 ls.slaves) (h : List Event) (t : List Entry) (w : Sweep) (l : ℕ) (b : Bool) (n : ℕ) (long : length t ≡ 127) (same : Every (Same ls h t) ls.slaves) where
+module _ (ls : SheetLines) (k : SlavesKeep ls.own 0 ls.slaves) (h : List Event) (t : List Entry) (w : Option Sweep) (l : ℕ) (b : Bool) (n : ℕ) (long : length t ≡ 127) (same : Every (Same ls h t) ls.slaves) where
   abbrev now : State
   now = state ls t w l b n Running
 
@@ -106,17 +106,17 @@ module _ (ls : SheetLines) (k : SlavesKeep ls.own 0 ls.slaves) (h : List Event) 
       let is : nmt_to (command_of r) m ≡ f = cc in
       let low = pos.low in let node = pos.node in
       subst (λ x. Agrees ls (h ++ put x ∷ []) (carried_out (plan.Serve m (duty.Reset r)) now)) is
-      (live (applied_to change.Reset (slave_by m ls.slaves) t) Over m (b || false) n (applied_to_long change.Reset (slave_by m ls.slaves) t long) (nmt_one (command_of r) m (omega arith) change.Reset (λ d x. seen_reset r x)))
+      (live (applied_to change.Reset (slave_by m ls.slaves) t) None m (b || false) n (applied_to_long change.Reset (slave_by m ls.slaves) t long) (nmt_one (command_of r) m (omega arith) change.Reset (λ d x. seen_reset r x)))
   serving m (duty.Request q) f o e =
       let is : request_content (request_of o.slave q) ≡ f = let y = ap (option_map (λ c. request_content (request_of c q))) (sym o.listed) ∙ e in cc in
       subst (λ x. Agrees ls (h ++ put x ∷ []) (carried_out (plan.Serve m (duty.Request q)) now)) is
-      (live (applied_to (change.Request ls.wait) (slave_by m ls.slaves) t) Over m (b || false) n (applied_to_long (change.Request ls.wait) (slave_by m ls.slaves) t long) (asking m q o))
+      (live (applied_to (change.Request ls.wait) (slave_by m ls.slaves) t) None m (b || false) n (applied_to_long (change.Request ls.wait) (slave_by m ls.slaves) t long) (asking m q o))
   serving m duty.Start f o e =
       let pos = has m ls.own 0 ls.slaves o.slave k o.listed in
       let is : nmt_to command.Start m ≡ f = cc in
       let low = pos.low in let node = pos.node in
       subst (λ x. Agrees ls (h ++ put x ∷ []) (carried_out (plan.Serve m duty.Start) now)) is
-      (live (applied_to change.Start (slave_by m ls.slaves) t) Over m (b || true) n (applied_to_long change.Start (slave_by m ls.slaves) t long) (nmt_one command.Start m (omega arith) change.Start (λ d x. seen_start x)))
+      (live (applied_to change.Start (slave_by m ls.slaves) t) None m (b || true) n (applied_to_long change.Start (slave_by m ls.slaves) t long) (nmt_one command.Start m (omega arith) change.Start (λ d x. seen_start x)))
 
   -- the frame of any plan of a running master
   pub live_put : (p : Plan) (f : Content) → Origin now p → plan_content ls.slaves p ≡ Some f → Agrees ls (h ++ put f ∷ []) (carried_out p now)
@@ -125,13 +125,13 @@ module _ (ls : SheetLines) (k : SlavesKeep ls.own 0 ls.slaves) (h : List Event) 
   live_put (plan.ResetAll r) f o e =
       let is : nmt_to (command_of r) 0 ≡ f = cc in
       subst (λ x. Agrees ls (h ++ put x ∷ []) (carried_out (plan.ResetAll r) now)) is
-      (live (applied_all change.Reset ls.slaves t) Over l b n (applied_long change.Reset ls.slaves t long) (nmt_all (command_of r) change.Reset (λ d x. seen_reset r x)))
+      (live (applied_all change.Reset ls.slaves t) None l b n (applied_long change.Reset ls.slaves t long) (nmt_all (command_of r) change.Reset (λ d x. seen_reset r x)))
   live_put (plan.ResetOne r m) f o e =
       let is : nmt_to (command_of r) m ≡ f = cc in
       subst (λ x. Agrees ls (h ++ put x ∷ []) (carried_out (plan.ResetOne r m) now)) is
-      (live (applied_to change.Reset (slave_by m ls.slaves) t) (Singles r m) l b n (applied_to_long change.Reset (slave_by m ls.slaves) t long) (nmt_one (command_of r) m o.0 change.Reset (λ d x. seen_reset r x)))
+      (live (applied_to change.Reset (slave_by m ls.slaves) t) (Some (Singles r m)) l b n (applied_to_long change.Reset (slave_by m ls.slaves) t long) (nmt_one (command_of r) m o.0 change.Reset (λ d x. seen_reset r x)))
   live_put (plan.Serve m d) f o e = serving m d f o e
   live_put (plan.StartAll m) f o e =
       let is : nmt_to command.Start 0 ≡ f = cc in
       subst (λ x. Agrees ls (h ++ put x ∷ []) (carried_out (plan.StartAll m) now)) is
-      (live (applied_all change.Start ls.slaves t) Over m (b || true) n (applied_long change.Start ls.slaves t long) (nmt_all command.Start change.Start (λ d x. seen_start x)))
+      (live (applied_all change.Start ls.slaves t) None m (b || true) n (applied_long change.Start ls.slaves t long) (nmt_all command.Start change.Start (λ d x. seen_start x)))

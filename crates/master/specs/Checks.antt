@@ -1,5 +1,5 @@
 -- The checks of a slave's try: what each asks, what an answer means, and which check follows.
-use Rattle.std.specs.Prelude.{ℕ, ◌+◌, Bool, true, false, cond, not, ◌&&◌, length, ◌==◌, nat_lt, slice_index_or}
+use Rattle.std.specs.Prelude.{ℕ, ◌+◌, Bool, true, false, cond, not, ◌&&◌, length, ◌==◌, nat_lt, slice_index_or, Err, Ok, Result}
 use Rattle.frames.specs.declared.error_control.Sign.{Sign}
 use Rattle.frames.specs.declared.error_control.Sign.TheVariants as sign
 use Rattle.frames.specs.declared.sdo.Access.TheVariants.{Read, Write}
@@ -15,8 +15,6 @@ use Rattle.master.specs.declared.types.Letter.{Letter}
 use Rattle.master.specs.declared.types.Letter.TheVariants as letter
 use Rattle.master.specs.declared.types.Next.{Next}
 use Rattle.master.specs.declared.types.Next.TheVariants as next
-use Rattle.master.specs.declared.types.Verdict.{Verdict}
-use Rattle.master.specs.declared.types.Verdict.TheVariants.{Met, Missed}
 
 -- how many bytes a set writes
 abbrev pub size_by : ℕ → Size
@@ -51,22 +49,22 @@ unanswered Revision = letter.OtherRevision
 unanswered Serial = letter.OtherSerial
 unanswered (Set i) = letter.NotSet
 
-abbrev pub same : ℕ → ℕ → Letter → Verdict
-same value wanted l = cond (value == wanted) Met (Missed l)
+abbrev pub same : ℕ → ℕ → Letter → Result (Unit {0}) Letter
+same value wanted l = cond (value == wanted) (Ok tt) (Err l)
 
 -- A value: the device type is met if the sheet has 0 or the same, else C; the identity only if it is the same.
-abbrev pub valued : SlaveLines → Check → ℕ → Verdict
-valued c Kind v = cond (c.kind == 0) Met (same v c.kind letter.OtherType)
+abbrev pub valued : SlaveLines → Check → ℕ → Result (Unit {0}) Letter
+valued c Kind v = cond (c.kind == 0) (Ok tt) (same v c.kind letter.OtherType)
 valued c Vendor v = same v c.vendor letter.OtherVendor
 valued c Product v = same v c.product letter.OtherProduct
 valued c Revision v = same v c.revision letter.OtherRevision
 valued c Serial v = same v c.serial letter.OtherSerial
-valued c (Set i) v = Met
+valued c (Set i) v = (Ok tt)
 
 -- What an answer that fits the request means.
-abbrev pub verdict_of : SlaveLines → Check → Reply → Verdict
-verdict_of c k Abort = Missed (unanswered k)
-verdict_of c k Written = Met
+abbrev pub verdict_of : SlaveLines → Check → Reply → Result (Unit {0}) Letter
+verdict_of c k Abort = Err (unanswered k)
+verdict_of c k Written = (Ok tt)
 verdict_of c k (Value v) = valued c k v
 
 -- Check 8 applies where the slave has a heartbeat; past it the slave has passed.

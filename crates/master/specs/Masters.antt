@@ -5,7 +5,6 @@ use Rattle.frames.specs.declared.frame.Frame.{Frame}
 use Rattle.master.specs.Network.{State, heard_by, result_of}
 use Rattle.master.specs.Session.{PortState, Machine, with_net, Call, hear, pass, work, take, placed, idle, refused, Step, hears}
 use Rattle.master.specs.Session.{Worked as Outcome}
-use Rattle.master.specs.Views.{view}
 use Rattle.master.specs.declared.calls.Call.{Call as Made}
 use Rattle.master.specs.declared.calls.Call.TheVariants as call
 use Rattle.master.specs.declared.calls.Refusal.{Refusal}
@@ -14,16 +13,11 @@ use Rattle.master.specs.declared.calls.Use.{Use}
 use Rattle.master.specs.declared.calls.Use.TheVariants.{Used, Unused}
 use Rattle.master.specs.declared.calls.Worked.{Worked}
 use Rattle.master.specs.declared.calls.Worked.TheVariants.{Put, NothingDue}
-use Rattle.master.specs.declared.nmt_master.Master.{Master}
 use Rattle.master.specs.declared.types.Letter.{Letter}
 
 -- A port by its four parts: what waits in it, how many can, the gap and the pause. Frames stand by their contents.
 abbrev pub port_by : {P : Type 0} → (P → List Frame) → (P → ℕ) → (P → ℕ) → (P → ℕ) → P → PortState
 port_by waiting most gap pause p = record { waiting = map content_of (waiting p); most = most p; gap = gap p; pause = pause p }
-
--- A master with its port as a plain value. The hints of where a slave stands on the sheet are no part of it.
-abbrev pub machine_by : {P : Type 0} → (P → List Frame) → (P → ℕ) → (P → ℕ) → (P → ℕ) → Master P → Machine
-machine_by waiting most gap pause m = record { net = view m.net; port = port_by waiting most gap pause m.port }
 
 -- A frame has an identifier up to 2047 and up to 8 bytes.
 abbrev pub is_frame : ℕ → List ℕ → Bool

@@ -1,5 +1,5 @@
 -- The state of a master without its port, and what the calls make of it.
-use Rattle.std.specs.Prelude.{◌≡◌, ℕ, zero, suc, ◌+◌, ◌-◌, ◌%◌, min, Bool, true, false, cond, not, ◌&&◌, ◌||◌, List, [], ◌∷◌, length, take, drop, replicate, Some, None, count_by, Option, ◌==◌, nat_le, nat_lt}
+use Rattle.std.specs.Prelude.{ℕ, zero, suc, ◌+◌, ◌-◌, ◌%◌, min, Bool, true, false, cond, not, ◌&&◌, ◌||◌, List, [], ◌∷◌, length, take, drop, replicate, Some, None, count_by, Option, ◌==◌, nat_le, nat_lt}
 use Rattle.std.specs.Option.{option_map}
 use Rattle.frames.specs.Contents.{Content}
 use Rattle.frames.specs.Nmt.{nmt_content}
@@ -12,8 +12,8 @@ use Rattle.sheet.specs.Format.{SlaveLines, SheetLines}
 use Rattle.master.specs.Checks.{request_of}
 use Rattle.master.specs.Step.{stepped, is_passed, is_cleared, is_spared, duty_of}
 use Rattle.master.specs.Table.{fresh, entry_of, changed, applied, applied_all}
-use Rattle.master.specs.declared.types.Brought.{Brought}
-use Rattle.master.specs.declared.types.Brought.TheVariants as brought
+use Rattle.master.specs.declared.types.Setback.{Setback}
+use Rattle.master.specs.declared.types.Setback.TheVariants as setback
 use Rattle.master.specs.declared.types.Change.{Change}
 use Rattle.master.specs.declared.types.Change.TheVariants as change
 use Rattle.master.specs.declared.types.Duty.{Duty}
@@ -34,14 +34,14 @@ use Rattle.master.specs.declared.types.ResetKind.TheVariants as reset
 use Rattle.master.specs.declared.types.Stage.{Stage}
 use Rattle.master.specs.declared.types.Stage.TheVariants.{AwaitBoot, Ask, Asked, ListenState, ListenControl, Passed, Retry, ResetDue}
 use Rattle.master.specs.declared.types.Sweep.{Sweep}
-use Rattle.master.specs.declared.types.Sweep.TheVariants.{Over, Begun, Singles}
+use Rattle.master.specs.declared.types.Sweep.TheVariants.{Begun, Singles}
 
 -- What the master knows: the sheet's lines, the entries of all nodes, the sweep, the node that was served last, whether
 -- a start was put, the ticks since the session began, and whether it runs, has a stop due or is halted.
 pub record State : Type 0 where
   pub lines : SheetLines
   pub entries : List Entry
-  pub sweep : Sweep
+  pub sweep : Option Sweep
   pub last : ℕ
   pub started : Bool
   pub clock : ℕ
@@ -52,7 +52,7 @@ abbrev pub fresh_state : SheetLines → State
 fresh_state ls = record {
   lines = ls;
   entries = applied_all change.Begin ls.slaves (replicate 127 fresh);
-  sweep = Begun reset.Communication;
+  sweep = Some (Begun reset.Communication);
   last = 0;
   started = false;
   clock = 0;
@@ -80,8 +80,12 @@ holds quality.Passed t last c = is_passed (entry_of t c).stage
 holds quality.Spared t last c = is_spared c (entry_of t c)
 holds quality.Served t last c = nat_le c.node last
 
+-- how many of these slaves have a quality
+abbrev pub count_in : Quality → List Entry → ℕ → List SlaveLines → ℕ
+count_in q t last cs = count_by (holds q t last) cs
+
 abbrev pub counted : Quality → State → ℕ
-counted q s = count_by (holds q s.entries s.last) s.lines.slaves
+counted q s = count_in q s.entries s.last s.lines.slaves
 
 -- Go: as many slaves are cleared as are listed.
 abbrev pub going : State → Bool
@@ -98,7 +102,7 @@ result_of n s = letter_at s.entries (slave_by n s.lines.slaves)
 abbrev pub with_entries : List Entry → State → State
 with_entries t s = record { lines = s.lines; entries = t; sweep = s.sweep; last = s.last; started = s.started; clock = s.clock; phase = s.phase }
 
-abbrev pub with_sweep : Sweep → State → State
+abbrev pub with_sweep : Option Sweep → State → State
 with_sweep w s = record { lines = s.lines; entries = s.entries; sweep = w; last = s.last; started = s.started; clock = s.clock; phase = s.phase }
 
 abbrev pub with_phase : Phase → State → State
@@ -127,13 +131,13 @@ tries_anew l s = is_no_answer l && (s.lines.boottime == 0 || nat_le s.clock s.li
 
 -- What a mandatory slave's step brings the whole: another missed check halts the master; its loss makes the stop due with
 -- stopall, else begins a sweep 81h with resetall.
-abbrev pub brought_by : Brought → State → State
-brought_by brought.Nothing s = s
-brought_by (brought.Missed l) s = cond (tries_anew l s) s (with_phase Halted s)
-brought_by brought.Lost s = cond s.lines.stopall (with_phase StopDue s) (cond s.lines.resetall (with_sweep (Begun reset.Node) s) s)
+abbrev pub brought_by : Option Setback → State → State
+brought_by None s = s
+brought_by (Some (setback.Missed l)) s = cond (tries_anew l s) s (with_phase Halted s)
+brought_by (Some setback.Lost) s = cond s.lines.stopall (with_phase StopDue s) (cond s.lines.resetall (with_sweep (Some (Begun reset.Node)) s) s)
 
 -- An optional slave brings nothing.
-abbrev pub brings : Bool → Brought → State → State
+abbrev pub brings : Bool → Option Setback → State → State
 brings mandatory b s = cond mandatory (brought_by b s) s
 
 -- a step of one slave, and what it brings
@@ -141,11 +145,6 @@ abbrev pub step_in : SlaveLines → Input → State → State
 step_in c i s =
     brings c.mandatory (stepped c (entry_of s.entries c) i).brought
     (with_entries (changed s.entries c (stepped c (entry_of s.entries c) i).entry) s)
-
--- The short way of a step: either it is not taken, and nothing changes, or it is the step.
-abbrev pub ShortenedAt : SlaveLines → Input → State → Bool → State → Type 0
-ShortenedAt c i s false u = u ≡ s
-ShortenedAt c i s true u = u ≡ step_in c i s
 
 -- the slaves' ticks upward; those after one that brings a stop or a halt are untouched
 abbrev pub tick_from : List SlaveLines → State → State
@@ -247,10 +246,10 @@ single_or c (Some n) p = plan.ResetOne c n
 abbrev pub single_plan : State → ResetKind → ℕ → Plan
 single_plan s c n = single_or c (single_after s (127 - n) n) (duty_plan s)
 
-abbrev pub sweep_plan : State → Sweep → Plan
-sweep_plan s Over = duty_plan s
-sweep_plan s (Begun c) = cond (nat_lt 0 (counted quality.Spared s)) (single_plan s c 0) (plan.ResetAll c)
-sweep_plan s (Singles c n) = single_plan s c n
+abbrev pub sweep_plan : State → Option Sweep → Plan
+sweep_plan s None = duty_plan s
+sweep_plan s (Some (Begun c)) = cond (nat_lt 0 (counted quality.Spared s)) (single_plan s c 0) (plan.ResetAll c)
+sweep_plan s (Some (Singles c n)) = single_plan s c n
 
 -- A halted master's plan is never asked for: its works are refused.
 abbrev pub phase_plan : State → Phase → Plan
@@ -300,14 +299,14 @@ is_start duty.Start = true
 
 -- the slave of node n is served: the sweep is over, and n is the node last served
 abbrev pub served : ℕ → Bool → State → State
-served n start s = record { lines = s.lines; entries = s.entries; sweep = Over; last = n; started = s.started || start; clock = s.clock; phase = s.phase }
+served n start s = record { lines = s.lines; entries = s.entries; sweep = None; last = n; started = s.started || start; clock = s.clock; phase = s.phase }
 
 -- What the state is once a plan's frame is put. The stop halts; a reset to node 0 ends the sweep at once, and a single one
 -- moves it on; a duty ends it, for it came since no node was left. So does a work that finds nothing due.
 abbrev pub carried_out : Plan → State → State
-carried_out plan.Nothing s = with_sweep Over s
+carried_out plan.Nothing s = with_sweep None s
 carried_out plan.Stop s = with_phase Halted s
-carried_out (plan.ResetAll c) s = with_sweep Over (with_entries (applied_all change.Reset s.lines.slaves s.entries) s)
-carried_out (plan.ResetOne c n) s = with_sweep (Singles c n) (with_entries (applied_to change.Reset (slave_by n s.lines.slaves) s.entries) s)
+carried_out (plan.ResetAll c) s = with_sweep None (with_entries (applied_all change.Reset s.lines.slaves s.entries) s)
+carried_out (plan.ResetOne c n) s = with_sweep (Some (Singles c n)) (with_entries (applied_to change.Reset (slave_by n s.lines.slaves) s.entries) s)
 carried_out (plan.Serve n d) s = served n (is_start d) (with_entries (applied_to (change_for s.lines.wait d) (slave_by n s.lines.slaves) s.entries) s)
 carried_out (plan.StartAll n) s = served n true (with_entries (applied_all change.Start s.lines.slaves s.entries) s)

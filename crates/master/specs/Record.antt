@@ -1,5 +1,5 @@
 -- The bus record, and how it is read. The reading uses nothing of the master's entries; both sides share the check rules.
-use Rattle.std.specs.Prelude.{◌≡◌, ℕ, ◌-◌, Bool, true, false, cond, not, ◌&&◌, List, [], ◌∷◌, length, Some, None, fold, count_by, Option, ◌==◌, nat_lt}
+use Rattle.std.specs.Prelude.{◌≡◌, ℕ, ◌-◌, Bool, true, false, cond, not, ◌&&◌, List, [], ◌∷◌, length, Some, None, fold, count_by, Option, ◌==◌, nat_lt, Err, Ok, Result}
 use Rattle.std.specs.Str.{bytes_eq}
 use Rattle.frames.specs.Contents.{Content}
 use Rattle.frames.specs.Nmt.{nmt_in, reaches}
@@ -13,12 +13,11 @@ use Rattle.frames.specs.declared.nmt.NmtMessage.{NmtMessage}
 use Rattle.frames.specs.declared.sdo.Reply.{Reply}
 use Rattle.sheet.specs.Format.{SlaveLines, SheetLines}
 use Rattle.master.specs.Checks.{runs, request_of, verdict_of, following}
+use Rattle.master.specs.declared.types.Letter.{Letter}
 use Rattle.master.specs.declared.types.Check.{Check}
 use Rattle.master.specs.declared.types.Check.TheVariants.{Kind}
 use Rattle.master.specs.declared.types.Next.{Next}
 use Rattle.master.specs.declared.types.Next.TheVariants as next
-use Rattle.master.specs.declared.types.Verdict.{Verdict}
-use Rattle.master.specs.declared.types.Verdict.TheVariants.{Met, Missed}
 use Rattle.master.specs.declared.types.Word.{Word}
 use Rattle.master.specs.declared.types.Word.TheVariants as word
 
@@ -60,7 +59,7 @@ ended r = record { at = none; booted = r.booted; word = r.word; once = true }
 abbrev pub pass : SlaveLines → Bool → Reading → Reading
 pass c running r = record { at = passed running false c.hb; booted = r.booted; word = r.word; once = true }
 
--- Met leads to the next set or check that applies; past the last the slave has passed.
+-- (Ok tt) leads to the next set or check that applies; past the last the slave has passed.
 abbrev pub onward : SlaveLines → Next → Reading → Reading
 onward c (next.Ask k) r = now_at (to_ask k) r
 onward c next.ListenState r = now_at (at_state c.hb) r
@@ -86,9 +85,9 @@ signed c sign.Stopped r = beaten c sign.Stopped r.at (spoken word.Stopped r)
 signed c sign.Operational r = beaten c sign.Operational r.at (spoken word.Operational r)
 signed c sign.PreOperational r = beaten c sign.PreOperational r.at (spoken word.PreOperational r)
 
-abbrev pub judged_by : SlaveLines → Check → Verdict → Reading → Reading
-judged_by c k Met r = onward c (following c r.booted k) r
-judged_by c k (Missed l) r = ended r
+abbrev pub judged_by : SlaveLines → Check → Result (Unit {0}) Letter → Reading → Reading
+judged_by c k (Ok u) r = onward c (following c r.booted k) r
+judged_by c k (Err l) r = ended r
 
 abbrev pub replied_by : SlaveLines → Check → Option Reply → Reading → Reading
 replied_by c k None r = r

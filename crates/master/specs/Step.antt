@@ -1,11 +1,11 @@
 -- What is heard, a tick, and what is put make of a slave's entry.
-use Rattle.std.specs.Prelude.{ℕ, ◌-◌, Bool, true, false, cond, not, ◌&&◌, Some, None, Option, ◌==◌, nat_lt}
+use Rattle.std.specs.Prelude.{ℕ, ◌-◌, Bool, true, false, cond, not, ◌&&◌, Some, None, Option, ◌==◌, nat_lt, Err, Ok, Result}
 use Rattle.frames.specs.declared.error_control.Sign.{Sign}
 use Rattle.frames.specs.declared.error_control.Sign.TheVariants as sign
 use Rattle.frames.specs.declared.sdo.Reply.{Reply}
 use Rattle.sheet.specs.Format.{SlaveLines}
 use Rattle.master.specs.Checks.{runs, unanswered, verdict_of, following}
-use Rattle.master.specs.declared.types.Brought.TheVariants as brought
+use Rattle.master.specs.declared.types.Setback.TheVariants as setback
 use Rattle.master.specs.declared.types.Check.{Check}
 use Rattle.master.specs.declared.types.Check.TheVariants.{Kind}
 use Rattle.master.specs.declared.types.Duty.{Duty}
@@ -21,8 +21,6 @@ use Rattle.master.specs.declared.types.ResetKind.TheVariants as reset
 use Rattle.master.specs.declared.types.Stage.{Stage}
 use Rattle.master.specs.declared.types.Stage.TheVariants.{AwaitBoot, Ask, Asked, ListenState, ListenControl, Passed, Retry, ResetDue}
 use Rattle.master.specs.declared.types.Stepped.{Stepped}
-use Rattle.master.specs.declared.types.Verdict.{Verdict}
-use Rattle.master.specs.declared.types.Verdict.TheVariants.{Met, Missed}
 use Rattle.master.specs.declared.types.Word.{Word}
 use Rattle.master.specs.declared.types.Word.TheVariants as word
 
@@ -46,20 +44,20 @@ abbrev pub saying : Word → Entry → Entry
 saying w e = record { stage = e.stage; word = w; booted = e.booted; result = e.result; once = e.once }
 
 abbrev pub quietly : Entry → Stepped
-quietly e = record { entry = e; brought = brought.Nothing }
+quietly e = record { entry = e; brought = None }
 
 -- A missed check: the letter is the result, and the slave tries anew 1000 ticks later.
 abbrev pub missed_by : Letter → Entry → Stepped
 missed_by l e = record {
   entry = record { stage = Retry 1000; word = e.word; booted = e.booted; result = Some l; once = true };
-  brought = brought.Missed l;
+  brought = Some (setback.Missed l);
 }
 
 -- A loss: the result is E, and a reset of the slave is due. (With stopall the stop comes first and the master halts, so that it is never put.)
 abbrev pub lost_by : Entry → Stepped
 lost_by e = record {
   entry = record { stage = ResetDue reset.Node; word = word.Loss; booted = e.booted; result = Some letter.NoHeartbeat; once = e.once };
-  brought = brought.Lost;
+  brought = (Some setback.Lost);
 }
 
 -- A pass: L if the slave was found running, else OK. From then on it is lost at hb ticks without a heartbeat.
@@ -95,9 +93,9 @@ on_sign c sign.Stopped e = on_beat c sign.Stopped e.stage (saying word.Stopped e
 on_sign c sign.Operational e = on_beat c sign.Operational e.stage (saying word.Operational e)
 on_sign c sign.PreOperational e = on_beat c sign.PreOperational e.stage (saying word.PreOperational e)
 
-abbrev pub decided : SlaveLines → Check → Verdict → Entry → Stepped
-decided c k Met e = quietly (gone_on c (following c e.booted k) e)
-decided c k (Missed l) e = missed_by l e
+abbrev pub decided : SlaveLines → Check → Result (Unit {0}) Letter → Entry → Stepped
+decided c k (Ok u) e = quietly (gone_on c (following c e.booted k) e)
+decided c k (Err l) e = missed_by l e
 
 -- An answer decides the check whose request is open.
 abbrev pub on_reply : SlaveLines → Reply → Stage → Entry → Stepped

@@ -1,7 +1,6 @@
 -- The table of entries, one for each node from 1 to 127, read and changed by slave.
 use Rattle.std.specs.Prelude.{◌≡◌, ◌-◌, Bool, true, false, cond, List, [], ◌∷◌, None, slice_index_or, slice_set}
 use Rattle.sheet.specs.Format.{SlaveLines}
-use Rattle.master.specs.declared.types.Brought.TheVariants.{Nothing}
 use Rattle.master.specs.declared.types.Change.{Change}
 use Rattle.master.specs.declared.types.Change.TheVariants.{Begin, Reset, Request, Start}
 use Rattle.master.specs.declared.types.Check.TheVariants.{Kind}
@@ -25,7 +24,7 @@ changed t c e = slice_set t (c.node - 1) e
 -- A short way of a step: either it is not taken, and nothing changes, or the step brings nothing and is done.
 abbrev pub Shortened : SlaveLines → Input → List Entry → Bool → List Entry → Type 0
 Shortened c i t false u = u ≡ t
-Shortened c i t true u = ((stepped c (entry_of t c) i).brought ≡ Nothing) × (u ≡ changed t c (stepped c (entry_of t c) i).entry)
+Shortened c i t true u = ((stepped c (entry_of t c) i).brought ≡ None) × (u ≡ changed t c (stepped c (entry_of t c) i).entry)
 
 -- A change of an entry besides its steps; a keep-alive slave begins at check 1.
 abbrev pub change_by : Change → SlaveLines → Entry → Entry

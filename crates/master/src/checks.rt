@@ -1,14 +1,11 @@
 // The checks of a slave's try: what each asks, what an answer means, and what follows.
-ghost use Rattle.std.specs.Prelude.{◌≡◌, ◌+◌, ◌≤◌};
+ghost use Rattle.std.specs.Prelude.{◌≡◌, if◌then◌else◌, ◌==◌};
 ghost use Rattle.sheet.specs.Views.{set_of, slave_of};
-ghost use Rattle.master.specs.Checks.{size_by, read_of, write_of, request_of, unanswered as unansweredBy, same as sameBy, valued as valuedBy, verdict_of, from_control, from_set, from_state, from_serial, from_revision, from_product, from_vendor, following as followingOf};
+ghost use Rattle.master.specs.Checks.{size_by, read_of, write_of, request_of, unanswered as unansweredBy, same as sameBy, valued as valuedBy, verdict_of, from_control, from_set, from_state, following as followingOf};
 
-use crate::types::{Check, Letter, Next, Verdict};
+use crate::types::{Check, Letter, Next};
 use frames::sdo::{Access, Reply, Request, Size};
 use sheet::{Set, Slave};
-
-// No slave has more sets.
-const MOST_SETS: usize = 32;
 
 fn size_of_set(set: &Set) -> Size
     ensures { result ≡ size_by set.now.size }
@@ -48,17 +45,13 @@ fn read_of(node: u8, index: u16, sub: u8) -> Request
 fn set_request(c: &Slave, place: usize) -> Request
     ensures { result ≡ request_of (slave_of c.now) (Check.Set place) }
 {
-    let sets = c.sets.as_slice();
-    if place < sets.len() {
-        return write_of(c.node, &sets[place]);
-    }
     let none = Set {
         index: 0,
         sub: 0,
         size: 1,
         value: 0,
     };
-    write_of(c.node, &none)
+    write_of(c.node, c.sets.as_slice().get(place).unwrap_or(&none))
 }
 
 pub(crate) fn request_of(c: &Slave, check: Check) -> Request
@@ -88,41 +81,33 @@ pub(crate) fn unanswered(check: Check) -> Letter
     }
 }
 
-fn same(value: u32, wanted: u32, letter: Letter) -> Verdict
+fn same(value: u32, wanted: u32, letter: Letter) -> Result<(), Letter>
     ensures { result ≡ sameBy value wanted letter }
 {
-    if value == wanted {
-        Verdict::Met
-    } else {
-        Verdict::Missed(letter)
-    }
+    if value == wanted { Ok(()) } else { Err(letter) }
 }
 
-fn valued(c: &Slave, check: Check, value: u32) -> Verdict
+fn valued(c: &Slave, check: Check, value: u32) -> Result<(), Letter>
     ensures { result ≡ valuedBy (slave_of c.now) check value }
 {
     match check {
-        Check::Kind => {
-            if c.kind == 0 {
-                return Verdict::Met;
-            }
-            same(value, c.kind, Letter::OtherType)
-        }
+        Check::Kind if c.kind == 0 => Ok(()),
+        Check::Kind => same(value, c.kind, Letter::OtherType),
         Check::Vendor => same(value, c.vendor, Letter::OtherVendor),
         Check::Product => same(value, c.product, Letter::OtherProduct),
         Check::Revision => same(value, c.revision, Letter::OtherRevision),
         Check::Serial => same(value, c.serial, Letter::OtherSerial),
-        Check::Set(_) => Verdict::Met,
+        Check::Set(_) => Ok(()),
     }
 }
 
-// What an answer that fits the check's request means.
-pub(crate) fn verdict(c: &Slave, check: Check, reply: Reply) -> Verdict
+// What an answer that fits the check's request means: the check is met, or missed with a letter.
+pub(crate) fn verdict(c: &Slave, check: Check, reply: Reply) -> Result<(), Letter>
     ensures { result ≡ verdict_of (slave_of c.now) check reply }
 {
     match reply {
-        Reply::Abort => Verdict::Missed(unanswered(check)),
-        Reply::Written => Verdict::Met,
+        Reply::Abort => Err(unanswered(check)),
+        Reply::Written => Ok(()),
         Reply::Value(value) => valued(c, check, value),
     }
 }
@@ -157,67 +142,27 @@ fn from_state(c: &Slave, booted: bool) -> Next
     }
 }
 
-fn from_serial(c: &Slave, booted: bool) -> Next
-    ensures { result ≡ from_serial (slave_of c.now) booted }
+// A check of the identity applies where the sheet has another value than 0; else the rest follows.
+fn ask_or(wanted: u32, check: Check, rest: Next) -> Next
+    ensures { result ≡ (if wanted == 0 then rest else Next.Ask check) }
 {
-    if c.serial == 0 {
-        from_state(c, booted)
-    } else {
-        Next::Ask(Check::Serial)
-    }
-}
-
-fn from_revision(c: &Slave, booted: bool) -> Next
-    ensures { result ≡ from_revision (slave_of c.now) booted }
-{
-    if c.revision == 0 {
-        from_serial(c, booted)
-    } else {
-        Next::Ask(Check::Revision)
-    }
-}
-
-fn from_product(c: &Slave, booted: bool) -> Next
-    ensures { result ≡ from_product (slave_of c.now) booted }
-{
-    if c.product == 0 {
-        from_revision(c, booted)
-    } else {
-        Next::Ask(Check::Product)
-    }
-}
-
-fn from_vendor(c: &Slave, booted: bool) -> Next
-    ensures { result ≡ from_vendor (slave_of c.now) booted }
-{
-    if c.vendor == 0 {
-        from_product(c, booted)
-    } else {
-        Next::Ask(Check::Vendor)
-    }
-}
-
-// What follows the set at a place: past the last that a slave can have, no set does.
-fn after_set(c: &Slave, place: usize) -> Next
-    ensures { result ≡ from_set (slave_of c.now) (place + 1) }
-{
-    if place < MOST_SETS {
-        from_set(c, place + 1)
-    } else {
-        from_control(c)
-    }
+    if wanted == 0 { rest } else { Next::Ask(check) }
 }
 
 // What follows a check that is met: the next one that applies to the slave.
 pub(crate) fn following(c: &Slave, booted: bool, check: Check) -> Next
     ensures { result ≡ followingOf (slave_of c.now) booted check }
 {
+    let state = from_state(c, booted);
+    let serial = ask_or(c.serial, Check::Serial, state);
+    let revision = ask_or(c.revision, Check::Revision, serial);
+    let product = ask_or(c.product, Check::Product, revision);
     match check {
-        Check::Kind => from_vendor(c, booted),
-        Check::Vendor => from_product(c, booted),
-        Check::Product => from_revision(c, booted),
-        Check::Revision => from_serial(c, booted),
-        Check::Serial => from_state(c, booted),
-        Check::Set(place) => after_set(c, place),
+        Check::Kind => ask_or(c.vendor, Check::Vendor, product),
+        Check::Vendor => product,
+        Check::Product => revision,
+        Check::Revision => serial,
+        Check::Serial => state,
+        Check::Set(place) => from_set(c, place.saturating_add(1)),
     }
 }

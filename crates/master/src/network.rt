@@ -1,19 +1,19 @@
 // Everything of the master but its port.
-ghost use Rattle.std.specs.Prelude.{◌≡◌, ◌-◌, ◌<◌, ◌≤◌, Bool, true, length, get_or, take, drop, is_some, IfSome, slice_index_or};
+ghost use Rattle.std.specs.Prelude.{◌≡◌, ◌-◌, length, map, ◌==◌};
 ghost use Rattle.std.specs.Option.{option_map};
 ghost use Rattle.frames.specs.Contents.{content_of};
 ghost use Rattle.sheet.specs.Sheets.{lines_of};
 ghost use Rattle.sheet.specs.Views.{slave_of};
-ghost use Rattle.master.specs.Network.{fresh_state, is_running, is_halted, slave_by, holds, counted, going, result_of, tries_anew, brought_by, step_in, ShortenedAt, ticked, State, input_at, heard_by, sweeps_to, single_after, first_due, next_due, starts_all, duty_plan, single_plan, planned, command_of, nmt_to, duty_content, plan_content, with_entries, applied_to, change_for, is_start, carried_out};
-ghost use Rattle.master.specs.Table.{applied_all};
-ghost use Rattle.master.specs.Views.{view, listed, blank};
-ghost use Rattle.master.specs.declared.types.Input.TheVariants as inputs;
+ghost use Rattle.master.specs.Network.{fresh_state, is_running, is_halted, slave_by, holds, count_in, counted, going, result_of, tries_anew, brought_by, step_in, ticked, input_of, heard_by, sweeps_to, single_after, first_due, next_due, starts_all, duty_plan, single_plan, sweep_plan, planned, nmt_to, duty_content, plan_content, with_entries, applied_to, change_for, served, carried_out};
+ghost use Rattle.master.specs.Table.{entry_of, applied_all};
+ghost use Rattle.master.specs.Masters.{use_of};
+ghost use Rattle.master.specs.Views.{view, state_of, listed, slave_seen};
 
+use crate::calls::Use;
 use crate::checks::request_of;
-use crate::stage::{duty_of, has_passed, is_cleared, is_spared};
 use crate::table::Table;
 use crate::types::{
-    Brought, Change, Duty, Input, Letter, Phase, Plan, Quality, ResetKind, Stage, Sweep,
+    Change, Duty, Input, Letter, Phase, Plan, Quality, ResetKind, Setback, Stage, Sweep,
 };
 use frames::error_control::Sign;
 use frames::frame::Frame;
@@ -22,9 +22,24 @@ use sheet::{Sheet, Slave};
 
 #[derive(Drop)]
 pub struct Network {
+    roll: Roll,
+    course: Course,
+}
+
+// The sheet, and by node where on it the node's slave may stand. A place is looked at before it is believed, so a wrong one
+// costs time and nothing else. A search alone takes twice the time for a heartbeat in a sheet of 126 slaves.
+#[derive(Drop)]
+pub struct Roll {
     sheet: Sheet,
+    hints: [u8; 256],
+}
+
+// What changes while the sheet stays.
+#[derive(Drop)]
+pub struct Course {
     table: Table,
-    sweep: Sweep,
+    // none is under way
+    sweep: Option<Sweep>,
     // the node that was served last; 0 at first
     last: u8,
     // a start was put
@@ -32,17 +47,6 @@ pub struct Network {
     // ticks since the session began
     clock: u32,
     phase: Phase,
-    // where on the sheet a node's slave may stand; a place is looked at before it is believed
-    hints: [u8; 128],
-}
-
-fn command_of(reset: ResetKind) -> Command
-    ensures { result ≡ command_of reset }
-{
-    match reset {
-        ResetKind::Node => Command::ResetNode,
-        ResetKind::Communication => Command::ResetCommunication,
-    }
 }
 
 fn nmt(command: Command, node: u8) -> Frame
@@ -62,263 +66,242 @@ fn change_for(wait: u16, duty: Duty) -> Change
     }
 }
 
-fn is_start(duty: Duty) -> bool
-    ensures { result ≡ is_start duty }
+// The slave of a node, if the sheet lists it. Its slaves ascend by node.
+fn search(sheet: &Sheet, node: u8) -> Option<&Slave>
+    ensures { slave_seen result ≡ slave_by node (lines_of sheet.now).slaves }
 {
-    match duty {
-        Duty::Start => true,
-        _ => false,
+    match sheet.slaves.binary_search_by_key(&node, |c| c.node) {
+        Ok(place) => Some(&sheet.slaves[place]),
+        Err(_) => None,
     }
 }
 
-fn listed_in(sheet: &Sheet) -> usize
-    ensures { result ≡ length (lines_of sheet.now).slaves }
-{
-    sheet.slaves.len()
-}
-
-// The slave at a place of the sheet.
-fn slave_at(sheet: &Sheet, place: usize) -> &Slave
-    requires { place < length (lines_of sheet.now).slaves }
-    ensures { slave_of result.now ≡ slice_index_or (lines_of sheet.now).slaves place blank }
-{
-    &sheet.slaves[place]
-}
-
-// The place of each listed slave, by its node.
-fn hints_of(sheet: &Sheet) -> [u8; 128] {
-    let mut hints = [0; 128];
-    for place in 0..listed_in(sheet) {
-        hints[slave_at(sheet, place).node as usize] = (place % 128) as u8;
-    }
-    hints
-}
-
-impl Network {
-    pub(crate) fn is_running(&self) -> bool
-        ensures { result ≡ is_running (view self.now).phase }
+impl Roll {
+    fn new(sheet: Sheet) -> Roll
+        ensures { result.sheet ≡ sheet }
     {
-        match self.phase {
-            Phase::Running => true,
-            _ => false,
+        let mut hints = [0; 256];
+        for (place, c) in sheet.slaves.iter().enumerate() {
+            hints[usize::from(c.node)] = place as u8;
+        }
+        Roll { sheet, hints }
+    }
+
+    // The slave of a node, if it is listed.
+    fn slave(&self, node: u8) -> Option<&Slave>
+        ensures { slave_seen result ≡ slave_by node (lines_of self.now.sheet).slaves }
+    {
+        let hint = usize::from(self.hints[usize::from(node)]);
+        match self.sheet.slaves.get(hint) {
+            Some(c) if c.node == node => Some(c),
+            _ => search(&self.sheet, node),
         }
     }
+}
 
-    pub(crate) fn is_halted(&self) -> bool
-        ensures { result ≡ is_halted (view self.now).phase }
+impl Course {
+    fn is_running(&self) -> bool
+        ensures { result ≡ is_running self.now.phase }
     {
-        match self.phase {
-            Phase::Halted => true,
-            _ => false,
-        }
-    }
-
-    // The sheet that the master was made from.
-    pub(crate) fn sheet(&self) -> &Sheet
-        ensures { result.now ≡ self.now.sheet }
-    {
-        &self.sheet
+        matches!(self.phase, Phase::Running)
     }
 
     fn has(&self, c: &Slave, quality: Quality) -> bool
-        ensures { result ≡ holds quality (view self.now).entries (view self.now).last (slave_of c.now) }
+        ensures { result ≡ holds quality self.now.table.entries self.now.last (slave_of c.now) }
     {
         match quality {
-            Quality::Cleared => is_cleared(&self.table.at(c), c),
-            Quality::Passed => has_passed(&self.table.at(c)),
-            Quality::Spared => is_spared(&self.table.at(c), c),
+            Quality::Cleared => self.table.at(c).is_cleared(c),
+            Quality::Passed => self.table.at(c).has_passed(),
+            Quality::Spared => self.table.at(c).is_spared(c),
             Quality::Served => c.node <= self.last,
         }
     }
 
-    // How many of the listed slaves have a quality.
-    fn count(&self, quality: Quality) -> usize
-        ensures { result ≡ counted quality (view self.now) }
+    // How many of these slaves have a quality.
+    fn count(&self, slaves: &[Slave], quality: Quality) -> usize
+        ensures { result ≡ count_in quality self.now.table.entries self.now.last (map slave_of slaves.now) }
     {
-        let mut n: usize = 0;
-        for place in 0..listed_in(&self.sheet) {
-            if self.has(slave_at(&self.sheet, place), quality) {
-                n += 1;
-            }
-        }
-        n
+        slaves.iter().filter(|c| self.has(c, quality)).count()
     }
 
-    // Go: as many slaves are cleared as are listed.
-    pub(crate) fn go(&self) -> bool
-        ensures { result ≡ going (view self.now) }
+    fn tries_anew(&self, sheet: &Sheet, letter: Letter) -> bool
+        ensures { result ≡ tries_anew letter (state_of sheet.now self.now) }
     {
-        self.count(Quality::Cleared) == listed_in(&self.sheet)
+        matches!(letter, Letter::NoAnswer) && (sheet.boottime == 0 || self.clock <= sheet.boottime)
     }
 
     // What a mandatory slave's step brings the whole.
-    fn bring(&mut self, brought: Brought)
-        ensures { view self.new ≡ brought_by brought (view self.old) }
+    fn bring(&mut self, sheet: &Sheet, brought: Option<Setback>)
+        ensures { state_of sheet.now self.new ≡ brought_by brought (state_of sheet.now self.old) }
     {
         match brought {
-            Brought::Nothing => {}
-            Brought::Missed(letter) => {
-                if !self.tries_anew(letter) {
+            None => {}
+            Some(Setback::Missed(letter)) => {
+                if !self.tries_anew(sheet, letter) {
                     self.phase = Phase::Halted;
                 }
             }
-            Brought::Lost => {
-                if self.sheet.stopall {
+            Some(Setback::Lost) => {
+                if sheet.stopall {
                     self.phase = Phase::StopDue;
-                } else if self.sheet.resetall {
-                    self.sweep = Sweep::Begun {
+                } else if sheet.resetall {
+                    self.sweep = Some(Sweep::Begun {
                         reset: ResetKind::Node,
-                    };
+                    });
                 }
             }
         }
     }
 
-    fn tries_anew(&self, letter: Letter) -> bool
-        ensures { result ≡ tries_anew letter (view self.now) }
+    // A step of a slave, and what it brings.
+    fn step(&mut self, sheet: &Sheet, c: &Slave, input: Input)
+        ensures { state_of sheet.now self.new ≡ step_in (slave_of c.now) input (state_of sheet.now self.old) }
     {
-        match letter {
-            Letter::NoAnswer => self.sheet.boottime == 0 || self.clock <= self.sheet.boottime,
-            _ => false,
+        if self.table.shortens(c, input) {
+            return;
         }
-    }
-
-    // A step of the slave at a place of the sheet, and what it brings.
-    fn step_at(&mut self, place: usize, input: Input)
-        requires { place < length (listed self.old) }
-        ensures { view self.new ≡ step_in (slice_index_or (listed self.old) place blank) input (view self.old) }
-    {
-        let c = slave_at(&self.sheet, place);
-        let mandatory = c.mandatory;
         let brought = self.table.step(c, input);
-        if mandatory {
-            self.bring(brought);
-        }
-    }
-
-    // The short way of a tick of the slave at a place of the sheet.
-    fn lowers_at(&mut self, place: usize) -> bool
-        requires { place < length (listed self.old) }
-        ensures { ShortenedAt (slice_index_or (listed self.old) place blank) inputs.Tick (view self.old) result (view self.new) }
-    {
-        self.table.lowers(slave_at(&self.sheet, place))
-    }
-
-    fn tick_at(&mut self, place: usize)
-        requires { place < length (listed self.old) }
-        ensures { view self.new ≡ step_in (slice_index_or (listed self.old) place blank) inputs.Tick (view self.old) }
-    {
-        if !self.lowers_at(place) {
-            self.step_at(place, Input::Tick);
-        }
-    }
-
-    // The short way of what is heard of the slave at a place of the sheet.
-    fn renews_at(&mut self, place: usize, input: Input) -> bool
-        requires { place < length (listed self.old) }
-        ensures { ShortenedAt (slice_index_or (listed self.old) place blank) input (view self.old) result (view self.new) }
-    {
-        self.table.renews(slave_at(&self.sheet, place), input)
-    }
-
-    fn hear_at(&mut self, place: usize, input: Input)
-        requires { place < length (listed self.old) }
-        ensures { view self.new ≡ step_in (slice_index_or (listed self.old) place blank) input (view self.old) }
-    {
-        if !self.renews_at(place, input) {
-            self.step_at(place, input);
+        if c.mandatory {
+            self.bring(sheet, brought);
         }
     }
 
     // A tick for each slave upward, up to one that brings a stop or a halt.
-    pub(crate) fn tick(&mut self)
-        ensures { view self.new ≡ ticked (view self.old) }
+    fn tick(&mut self, sheet: &Sheet)
+        ensures { state_of sheet.now self.new ≡ ticked (state_of sheet.now self.old) }
     {
         if !self.is_running() {
             return;
         }
         self.clock = self.clock.saturating_add(1);
-        for place in 0..listed_in(&self.sheet) {
-            self.tick_at(place);
+        for c in &sheet.slaves {
+            self.step(sheet, c, Input::Tick);
             if !self.is_running() {
                 return;
             }
         }
     }
 
-    // The place of a node's slave on the sheet, if it is listed.
-    fn place_of(&self, node: u8) -> Option<usize>
-        ensures slave { option_map (λ p. get_or (listed self.now) p blank) result ≡ slave_by node (listed self.now) }
-        ensures inside { IfSome result (λ p. p < length (listed self.now)) }
+    // What a frame is to a slave, if anything.
+    fn input(&self, c: &Slave, frame: &Frame) -> Option<Input>
+        ensures { result ≡ input_of (slave_of c.now) (entry_of self.now.table.entries (slave_of c.now)).stage (content_of frame.now) }
     {
-        let hint = self.hints[node as usize % 128] as usize;
-        if hint < listed_in(&self.sheet) && slave_at(&self.sheet, hint).node == node {
-            return Some(hint);
+        if let Some(sign) = Sign::read(frame, c.node) {
+            return Some(Input::Heard(sign));
         }
-        for place in 0..listed_in(&self.sheet) {
-            if slave_at(&self.sheet, place).node == node {
-                return Some(place);
+        let Stage::Asked { check, .. } = self.table.at(c).stage else {
+            return None;
+        };
+        request_of(c, check).reply(frame).map(Input::Replied)
+    }
+
+    // The first of these slaves that is owed something, by its node, and what.
+    fn first_due(&self, slaves: &[Slave], go: bool) -> Option<(u8, Duty)>
+        ensures { result ≡ first_due go self.now.table.entries (map slave_of slaves.now) }
+    {
+        for c in slaves {
+            if let Some(duty) = self.table.at(c).duty(go) {
+                return Some((c.node, duty));
             }
         }
         None
     }
 
+    // A change of the entries of all listed slaves.
+    fn apply_all(&mut self, sheet: &Sheet, change: Change)
+        ensures { state_of sheet.now self.new ≡ with_entries (applied_all change (lines_of sheet.now).slaves self.old.table.entries) (state_of sheet.now self.old) }
+    {
+        for c in &sheet.slaves {
+            self.table.apply(c, change);
+        }
+    }
+}
+
+impl Network {
+    fn is_running(&self) -> bool
+        ensures { result ≡ is_running (view self.now).phase }
+    {
+        self.course.is_running()
+    }
+
+    pub(crate) fn is_halted(&self) -> bool
+        ensures { result ≡ is_halted (view self.now).phase }
+    {
+        matches!(self.course.phase, Phase::Halted)
+    }
+
+    // The sheet that the master was made from.
+    pub(crate) fn sheet(&self) -> &Sheet
+        ensures { result.now ≡ self.now.roll.sheet }
+    {
+        &self.roll.sheet
+    }
+
+    // How many of the listed slaves have a quality.
+    fn count(&self, quality: Quality) -> usize
+        ensures { result ≡ counted quality (view self.now) }
+    {
+        self.course
+            .count(self.roll.sheet.slaves.as_slice(), quality)
+    }
+
+    // How many of the listed slaves have a quality, and whether all have.
+    fn all(&self, quality: Quality) -> bool
+        ensures { result ≡ (counted quality (view self.now) == length (listed self.now)) }
+    {
+        self.count(quality) == self.roll.sheet.slaves.len()
+    }
+
+    // Go: as many slaves are cleared as are listed.
+    pub(crate) fn go(&self) -> bool
+        ensures { result ≡ going (view self.now) }
+    {
+        self.all(Quality::Cleared)
+    }
+
+    pub(crate) fn tick(&mut self)
+        ensures { view self.new ≡ ticked (view self.old) }
+    {
+        self.course.tick(&self.roll.sheet);
+    }
+
     pub(crate) fn result(&self, node: u8) -> Option<Letter>
         ensures { result ≡ result_of node (view self.now) }
     {
-        match self.place_of(node) {
-            Some(place) => self.table.at(slave_at(&self.sheet, place)).result,
+        match self.roll.slave(node) {
+            Some(c) => self.course.table.at(c).result,
             None => Some(Letter::NotListed),
         }
     }
 
-    // What a frame is to the slave at a place, if anything.
-    fn input_of(&self, place: usize, frame: &Frame) -> Option<Input>
-        requires { place < length (listed self.now) }
-        ensures { result ≡ input_at (view self.now) (slice_index_or (listed self.now) place blank) (content_of frame.now) }
-    {
-        let c = slave_at(&self.sheet, place);
-        if let Some(sign) = Sign::read(frame, c.node) {
-            return Some(Input::Heard(sign));
-        }
-        match self.table.at(c).stage {
-            Stage::Asked { check, .. } => match request_of(c, check).reply(frame) {
-                Some(reply) => Some(Input::Replied(reply)),
-                None => None,
-            },
-            _ => None,
-        }
-    }
-
     // A frame heard; answers whether it was used.
-    pub(crate) fn heard(&mut self, frame: &Frame) -> bool
-        ensures { ◌≡◌ {A = Bool × State} (result, view self.new) (heard_by (content_of frame.now) (view self.old)) }
+    pub(crate) fn heard(&mut self, frame: &Frame) -> Use
+        ensures used { result ≡ use_of (heard_by (content_of frame.now) (view self.old)).0 }
+        ensures state { view self.new ≡ (heard_by (content_of frame.now) (view self.old)).1 }
     {
         if !self.is_running() {
-            return false;
+            return Use::Unused;
         }
-        let Some(place) = self.place_of(frame.node()) else {
-            return false;
+        let roll = &self.roll;
+        let Some(c) = roll.slave(frame.node()) else {
+            return Use::Unused;
         };
-        let Some(input) = self.input_of(place, frame) else {
-            return false;
+        let Some(input) = self.course.input(c, frame) else {
+            return Use::Unused;
         };
-        self.hear_at(place, input);
-        true
+        self.course.step(&roll.sheet, c, input);
+        Use::Used
     }
 
     // Whether a single reset goes to this node.
     fn sweeps_to(&self, node: u8) -> bool
         ensures { result ≡ sweeps_to (view self.now) node }
     {
-        if node == self.sheet.own {
+        if node == self.roll.sheet.own {
             return false;
         }
-        match self.place_of(node) {
-            Some(place) => {
-                let c = slave_at(&self.sheet, place);
-                !is_spared(&self.table.at(c), c)
-            }
+        match self.roll.slave(node) {
+            Some(c) => !self.course.has(c, Quality::Spared),
             None => true,
         }
     }
@@ -335,39 +318,17 @@ impl Network {
         None
     }
 
-    // The first slave from one place up to another that is owed something, by its node, and what.
-    fn first_due(&self, from: usize, to: usize, go: bool) -> Option<(u8, Duty)>
-        requires { to ≤ length (listed self.now) }
-        ensures { result ≡ first_due go (view self.now).entries (drop from (take to (listed self.now))) }
-    {
-        for place in from..to {
-            let c = slave_at(&self.sheet, place);
-            if let Some(duty) = duty_of(&self.table.at(c), go) {
-                return Some((c.node, duty));
-            }
-        }
-        None
-    }
-
-    // Whether a slave is owed something, or would be while Go.
-    fn any_due(&self) -> bool
-        ensures { result ≡ is_some (first_due true (view self.now).entries (listed self.now)) }
-    {
-        self.first_due(0, listed_in(&self.sheet), true).is_some()
-    }
-
     // The next slave upward after the one last served that is owed something.
     fn next_due(&self) -> Option<(u8, Duty)>
         ensures { result ≡ next_due (view self.now) }
     {
-        if !self.any_due() {
-            return None;
-        }
+        let slaves = self.roll.sheet.slaves.as_slice();
+        self.course.first_due(slaves, true)?;
         let go = self.go();
-        let served = self.count(Quality::Served);
-        match self.first_due(served, listed_in(&self.sheet), go) {
+        let (before, behind) = slaves.split_at(self.count(Quality::Served));
+        match self.course.first_due(behind, go) {
             Some(due) => Some(due),
-            None => self.first_due(0, served, go),
+            None => self.course.first_due(before, go),
         }
     }
 
@@ -375,26 +336,16 @@ impl Network {
     fn starts_all(&self) -> bool
         ensures { result ≡ starts_all (view self.now) }
     {
-        self.sheet.startall
-            && !self.started
-            && self.count(Quality::Passed) == listed_in(&self.sheet)
+        self.roll.sheet.startall && !self.course.started && self.all(Quality::Passed)
     }
 
     fn duty_plan(&self) -> Plan
         ensures { result ≡ duty_plan (view self.now) }
     {
-        let Some((node, duty)) = self.next_due() else {
-            return Plan::Nothing;
-        };
-        match duty {
-            Duty::Start => {
-                if self.starts_all() {
-                    Plan::StartAll { node }
-                } else {
-                    Plan::Serve { node, duty }
-                }
-            }
-            _ => Plan::Serve { node, duty },
+        match self.next_due() {
+            None => Plan::Nothing,
+            Some((node, Duty::Start)) if self.starts_all() => Plan::StartAll { node },
+            Some((node, duty)) => Plan::Serve { node, duty },
         }
     }
 
@@ -407,21 +358,30 @@ impl Network {
         }
     }
 
-    // What a work puts: a due stop, else the sweep, else the next duty.
-    pub(crate) fn plan(&self) -> Plan
-        ensures { result ≡ planned (view self.now) }
+    // What the sweep that is under way puts next; with none, the next duty.
+    fn sweep_plan(&self) -> Plan
+        ensures { result ≡ sweep_plan (view self.now) (view self.now).sweep }
     {
-        match (self.phase, self.sweep) {
-            (Phase::StopDue, _) => Plan::Stop,
-            (_, Sweep::Over) => self.duty_plan(),
-            (_, Sweep::Begun { reset }) => {
+        match self.course.sweep {
+            None => self.duty_plan(),
+            Some(Sweep::Begun { reset }) => {
                 if self.count(Quality::Spared) > 0 {
                     self.single_plan(reset, 0)
                 } else {
                     Plan::ResetAll { reset }
                 }
             }
-            (_, Sweep::Singles { reset, passed }) => self.single_plan(reset, passed),
+            Some(Sweep::Singles { reset, passed }) => self.single_plan(reset, passed),
+        }
+    }
+
+    // What a work puts: a due stop, else what the sweep puts, else the next duty.
+    pub(crate) fn plan(&self) -> Plan
+        ensures { result ≡ planned (view self.now) }
+    {
+        match self.course.phase {
+            Phase::StopDue => Plan::Stop,
+            Phase::Running | Phase::Halted => self.sweep_plan(),
         }
     }
 
@@ -429,10 +389,10 @@ impl Network {
         ensures { option_map content_of result ≡ duty_content (listed self.now) node duty }
     {
         match duty {
-            Duty::Reset(reset) => Some(nmt(command_of(reset), node)),
+            Duty::Reset(reset) => Some(nmt(Command::from(reset), node)),
             Duty::Request(check) => {
-                let place = self.place_of(node)?;
-                Some(request_of(slave_at(&self.sheet, place), check).frame())
+                let c = self.roll.slave(node)?;
+                Some(request_of(c, check).frame())
             }
             Duty::Start => Some(nmt(Command::Start, node)),
         }
@@ -445,8 +405,8 @@ impl Network {
         match plan {
             Plan::Nothing => None,
             Plan::Stop => Some(nmt(Command::Stop, 0)),
-            Plan::ResetAll { reset } => Some(nmt(command_of(reset), 0)),
-            Plan::ResetOne { reset, node } => Some(nmt(command_of(reset), node)),
+            Plan::ResetAll { reset } => Some(nmt(Command::from(reset), 0)),
+            Plan::ResetOne { reset, node } => Some(nmt(Command::from(reset), node)),
             Plan::Serve { node, duty } => self.duty_frame(node, duty),
             Plan::StartAll { .. } => Some(nmt(Command::Start, 0)),
         }
@@ -456,9 +416,8 @@ impl Network {
     fn apply_to(&mut self, node: u8, change: Change)
         ensures { view self.new ≡ with_entries (applied_to change (slave_by node (listed self.old)) (view self.old).entries) (view self.old) }
     {
-        if let Some(place) = self.place_of(node) {
-            let c = slave_at(&self.sheet, place);
-            self.table.apply(c, change);
+        if let Some(c) = self.roll.slave(node) {
+            self.course.table.apply(c, change);
         }
     }
 
@@ -466,19 +425,7 @@ impl Network {
     fn apply_all(&mut self, change: Change)
         ensures { view self.new ≡ with_entries (applied_all change (listed self.old) (view self.old).entries) (view self.old) }
     {
-        for place in 0..listed_in(&self.sheet) {
-            let c = slave_at(&self.sheet, place);
-            self.table.apply(c, change);
-        }
-    }
-
-    fn serve(&mut self, node: u8, duty: Duty)
-        ensures { view self.new ≡ carried_out (Plan.Serve node duty) (view self.old) }
-    {
-        self.apply_to(node, change_for(self.sheet.wait, duty));
-        self.started |= is_start(duty);
-        self.last = node;
-        self.sweep = Sweep::Over;
+        self.course.apply_all(&self.roll.sheet, change);
     }
 
     // What the master becomes when the plan's frame is put.
@@ -486,45 +433,55 @@ impl Network {
         ensures { view self.new ≡ carried_out plan (view self.old) }
     {
         match plan {
-            Plan::Nothing => self.sweep = Sweep::Over,
-            Plan::Stop => self.phase = Phase::Halted,
+            Plan::Nothing => self.course.sweep = None,
+            Plan::Stop => self.course.phase = Phase::Halted,
             Plan::ResetAll { .. } => {
                 self.apply_all(Change::Reset);
-                self.sweep = Sweep::Over;
+                self.course.sweep = None;
             }
             Plan::ResetOne { reset, node } => {
                 self.apply_to(node, Change::Reset);
-                self.sweep = Sweep::Singles {
+                self.course.sweep = Some(Sweep::Singles {
                     reset,
                     passed: node,
-                };
+                });
             }
-            Plan::Serve { node, duty } => self.serve(node, duty),
+            Plan::Serve { node, duty } => {
+                self.apply_to(node, change_for(self.roll.sheet.wait, duty));
+                self.served(node, matches!(duty, Duty::Start));
+            }
             Plan::StartAll { node } => {
                 self.apply_all(Change::Start);
-                self.started = true;
-                self.last = node;
-                self.sweep = Sweep::Over;
+                self.served(node, true);
             }
         }
+    }
+
+    // A slave is served, perhaps by a start, and no sweep is under way.
+    fn served(&mut self, node: u8, start: bool)
+        ensures { view self.new ≡ served node start (view self.old) }
+    {
+        self.course.started |= start;
+        self.course.last = node;
+        self.course.sweep = None;
     }
 
     // A fresh master's: a sweep 82h is begun, and the keep-alive slaves begin at check 1.
     pub(crate) fn new(sheet: Sheet) -> Network
         ensures { view result ≡ fresh_state (lines_of sheet) }
     {
-        let hints = hints_of(&sheet);
         let mut network = Network {
-            sheet,
-            table: Table::new(),
-            sweep: Sweep::Begun {
-                reset: ResetKind::Communication,
+            roll: Roll::new(sheet),
+            course: Course {
+                table: Table::new(),
+                sweep: Some(Sweep::Begun {
+                    reset: ResetKind::Communication,
+                }),
+                last: 0,
+                started: false,
+                clock: 0,
+                phase: Phase::Running,
             },
-            last: 0,
-            started: false,
-            clock: 0,
-            phase: Phase::Running,
-            hints,
         };
         network.apply_all(Change::Begin);
         network

@@ -5,10 +5,10 @@ ghost use Rattle.frames.specs.Contents.{content_of};
 ghost use Rattle.ports.specs.Meaning.{given};
 ghost use Rattle.sheet.specs.Sheets.{lines_of};
 ghost use Rattle.master.specs.FromPort.{fresh_machine, LeadsFrom, Carries, Tells};
-ghost use Rattle.master.specs.Masters.{port_by, machine_by, use_of, called, hearing, hearing_steps, worked_by, asked};
+ghost use Rattle.master.specs.Masters.{port_by, use_of, called, hearing, hearing_steps, worked_by, asked};
 ghost use Rattle.master.specs.Network.{heard_by, going, is_halted};
 ghost use Rattle.master.specs.Rows.{shown_by, shown_at};
-ghost use Rattle.master.specs.Session.{pass, work, take, after, step_of, works_on, takes};
+ghost use Rattle.master.specs.Session.{hear, pass, work, take, after, step_of, works_on, takes, leaves};
 ghost use Rattle.master.specs.Views.{view};
 
 use crate::calls::{Answer, Call, Refusal, Use, Worked};
@@ -17,18 +17,30 @@ use crate::types::{Letter, Plan};
 use frames::frame::Frame;
 use ports::port::Port;
 use sheet::Sheet;
+use std::marker::Model;
 
 #[derive(Drop)]
-pub struct Master<P> {
+pub struct Master<P: Port> {
     net: Network,
     port: P,
+}
+
+// In a clause a master is a machine: what it knows, and its port by its meaning.
+impl<P: Port> Model for Master<P> {
+    ghost use Rattle.master.specs.Session.{Machine};
+    ghost use Rattle.master.specs.Masters.{port_by};
+    ghost use Rattle.master.specs.Views.{view as state_of};
+
+    ghost Value = { Machine };
+
+    ghost view = { λ m. record { net = state_of m.net; port = port_by P.waiting P.most P.gap P.pause m.port } };
 }
 
 impl<P: Port> Master<P> {
     // A fresh master: a sweep 82h is begun, and nobody has passed.
     pub fn new(sheet: Sheet, port: P) -> Master<P>
-        ensures state { machine_by P.waiting P.most P.gap P.pause result ≡ fresh_machine (lines_of sheet) (port_by P.waiting P.most P.gap P.pause port) }
-        ensures law { LeadsFrom (lines_of sheet) (port_by P.waiting P.most P.gap P.pause port) [] (machine_by P.waiting P.most P.gap P.pause result) }
+        ensures state { result ≡ fresh_machine (lines_of sheet) (port_by P.waiting P.most P.gap P.pause port) }
+        ensures law { LeadsFrom (lines_of sheet) (port_by P.waiting P.most P.gap P.pause port) [] result }
     {
         Master {
             net: Network::new(sheet),
@@ -36,34 +48,21 @@ impl<P: Port> Master<P> {
         }
     }
 
-    fn hear(&mut self, frame: &Frame) -> Use
-        ensures answer { result ≡ use_of (heard_by (content_of frame.now) (view self.old.net)).0 }
-        ensures net { view self.new.net ≡ (heard_by (content_of frame.now) (view self.old.net)).1 }
-        ensures port { self.new.port ≡ self.old.port }
-    {
-        if self.net.heard(frame) {
-            Use::Used
-        } else {
-            Use::Unused
-        }
-    }
-
     // A frame came over the bus: its identifier and bytes, as the bus gives them. Refused: 11.
     pub fn heard(&mut self, id: u32, bytes: &[u8]) -> Result<Use, Refusal>
-        ensures answer { result ≡ (hearing id bytes.now (machine_by P.waiting P.most P.gap P.pause self.old)).0 }
-        ensures state { (machine_by P.waiting P.most P.gap P.pause self.new) ≡ (hearing id bytes.now (machine_by P.waiting P.most P.gap P.pause self.old)).1 }
-        ensures law { Carries (machine_by P.waiting P.most P.gap P.pause self.old) (hearing_steps id bytes.now) (machine_by P.waiting P.most P.gap P.pause self.new) }
+        ensures answer { result ≡ (hearing id bytes.now self.old).0 }
+        ensures state { self.new ≡ (hearing id bytes.now self.old).1 }
+        ensures law { Carries self.old (hearing_steps id bytes.now) self.new }
     {
-        let Ok(frame) = Frame::new(id, bytes) else {
-            return Err(Refusal::NoFrame);
-        };
-        Ok(self.hear(&frame))
+        let net = &mut self.net;
+        let frame = Frame::new(id, bytes).map_err(|_| Refusal::NoFrame)?;
+        Ok(net.heard(&frame))
     }
 
     // A millisecond went by, for the slaves and for the port.
     pub fn tick(&mut self)
-        ensures state { (machine_by P.waiting P.most P.gap P.pause self.new) ≡ after pass (machine_by P.waiting P.most P.gap P.pause self.old) }
-        ensures law { Carries (machine_by P.waiting P.most P.gap P.pause self.old) (step_of pass (machine_by P.waiting P.most P.gap P.pause self.old) ∷ []) (machine_by P.waiting P.most P.gap P.pause self.new) }
+        ensures state { self.new ≡ after pass self.old }
+        ensures law { Carries self.old (step_of pass self.old ∷ []) self.new }
     {
         self.net.tick();
         self.port.tick();
@@ -72,9 +71,9 @@ impl<P: Port> Master<P> {
     // Puts the frame that is due in the port. Refused: 12 if the master is halted, else 13 if something is due and the
     // port has no room.
     pub fn work(&mut self) -> Result<Worked, Refusal>
-        ensures answer { result ≡ worked_by (works_on (machine_by P.waiting P.most P.gap P.pause self.old)).0 }
-        ensures state { (machine_by P.waiting P.most P.gap P.pause self.new) ≡ after work (machine_by P.waiting P.most P.gap P.pause self.old) }
-        ensures law { Carries (machine_by P.waiting P.most P.gap P.pause self.old) (step_of work (machine_by P.waiting P.most P.gap P.pause self.old) ∷ []) (machine_by P.waiting P.most P.gap P.pause self.new) }
+        ensures answer { result ≡ worked_by (works_on self.old).0 }
+        ensures state { self.new ≡ after work self.old }
+        ensures law { Carries self.old (step_of work self.old ∷ []) self.new }
     {
         if self.net.is_halted() {
             return Err(Refusal::Halted);
@@ -93,20 +92,20 @@ impl<P: Port> Master<P> {
 
     // The frame that goes to the bus next, unless the port holds it back.
     pub fn take(&mut self) -> Option<Frame>
-        ensures answer { result ≡ given (P.waiting self.old.port) (P.pause self.old.port) }
-        ensures state { (machine_by P.waiting P.most P.gap P.pause self.new) ≡ after take (machine_by P.waiting P.most P.gap P.pause self.old) }
-        ensures law { Carries (machine_by P.waiting P.most P.gap P.pause self.old) (takes (option_map content_of result) ∷ []) (machine_by P.waiting P.most P.gap P.pause self.new) }
+        ensures answer { option_map content_of result ≡ (leaves self.old.port.waiting self.old.port).0 }
+        ensures state { self.new ≡ after take self.old }
+        ensures law { Carries self.old (takes (option_map content_of result) ∷ []) self.new }
     {
         self.port.take()
     }
 
     // Any of the calls that can change something.
     pub(crate) fn answer(&mut self, call: Call) -> Answer
-        ensures seen { shown_by call result ≡ shown_at call (machine_by P.waiting P.most P.gap P.pause self.old) }
-        ensures state { (machine_by P.waiting P.most P.gap P.pause self.new) ≡ after (called call) (machine_by P.waiting P.most P.gap P.pause self.old) }
+        ensures seen { shown_by call result ≡ shown_at call self.old }
+        ensures state { self.new ≡ after (called call) self.old }
     {
         match call {
-            Call::Heard(frame) => Answer::Heard(self.hear(&frame)),
+            Call::Heard(frame) => Answer::Heard(self.net.heard(&frame)),
             Call::Tick => {
                 self.tick();
                 Answer::Ticked
@@ -118,22 +117,22 @@ impl<P: Port> Master<P> {
 
     // Whether every listed slave is cleared: the lamp is green.
     pub fn go(&self) -> bool
-        ensures answer { result ≡ going (machine_by P.waiting P.most P.gap P.pause self.now).net }
-        ensures law { Tells (machine_by P.waiting P.most P.gap P.pause self.now) result }
+        ensures answer { result ≡ going self.now.net }
+        ensures law { Tells self.now result }
     {
         self.net.go()
     }
 
     // Whether the master is halted. It stays so, and only a new one starts the network again.
     pub fn halted(&self) -> bool
-        ensures { result ≡ is_halted (machine_by P.waiting P.most P.gap P.pause self.now).net.phase }
+        ensures { result ≡ is_halted self.now.net.phase }
     {
         self.net.is_halted()
     }
 
     // The result of a node, if it has one yet. Refused: 10.
     pub fn result(&self, node: u8) -> Result<Option<Letter>, Refusal>
-        ensures { result ≡ asked node (machine_by P.waiting P.most P.gap P.pause self.now).net }
+        ensures { result ≡ asked node self.now.net }
     {
         if node == 0 || node > 127 {
             return Err(Refusal::NoNode);
@@ -143,7 +142,7 @@ impl<P: Port> Master<P> {
 
     // The sheet that the master was made from.
     pub fn sheet(&self) -> &Sheet
-        ensures { lines_of result.now ≡ (machine_by P.waiting P.most P.gap P.pause self.now).net.lines }
+        ensures { lines_of result.now ≡ self.now.net.lines }
     {
         self.net.sheet()
     }

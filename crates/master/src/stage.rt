@@ -1,15 +1,13 @@
 // One slave's entry: what it becomes by what is heard, by a tick, and by what is put to it.
-ghost use Rattle.std.specs.Prelude.{◌≡◌, not, ◌&&◌, if◌then◌else◌};
+ghost use Rattle.std.specs.Prelude.{◌≡◌, ◌-◌, not, nat_lt, None, Some, if◌then◌else◌};
 ghost use Rattle.sheet.specs.Views.{slave_of};
-ghost use Rattle.master.specs.Step.{word_of, is_boot_up, to, saying, quietly, missed_by, lost_by, passed_by, gone_on, booted_by, on_beat, decided, stepped, reset_put, request_put, start_put, is_passed, is_cleared, is_spared, may_run, duty_of};
-ghost use Rattle.master.specs.Checks.{runs, verdict_of};
+ghost use Rattle.master.specs.Step.{is_boot_up, to, saying, quietly, missed_by, lost_by, passed_by, gone_on, booted_by, on_beat, on_sign, decided, on_reply, on_tick, stepped, reset_put, request_put, start_put, is_passed, is_cleared, is_spared, duty_of};
+ghost use Rattle.master.specs.Checks.{runs};
 ghost use Rattle.master.specs.Table.{change_by};
-ghost use Rattle.master.specs.declared.types.Stage.TheVariants as stages;
 
 use crate::checks::{following, unanswered, verdict};
 use crate::types::{
-    Brought, Change, Check, Duty, Entry, Input, Letter, Next, ResetKind, Stage, Stepped, Verdict,
-    Word,
+    Change, Check, Duty, Entry, Input, Letter, Next, ResetKind, Setback, Stage, Stepped, Word,
 };
 use frames::error_control::Sign;
 use frames::sdo::Reply;
@@ -18,411 +16,329 @@ use sheet::Slave;
 // Ticks from a failed try to the next, and for a boot-up after a reset.
 const PAUSE: u16 = 1000;
 
-pub(crate) fn word_of(sign: Sign) -> Word
-    ensures { result ≡ word_of sign }
-{
-    match sign {
-        Sign::BootUp => Word::BootUp,
-        Sign::Stopped => Word::Stopped,
-        Sign::Operational => Word::Operational,
-        Sign::PreOperational => Word::PreOperational,
-    }
-}
-
 pub(crate) fn is_heartbeat(sign: Sign) -> bool
     ensures { result ≡ not (is_boot_up sign) }
 {
-    match sign {
-        Sign::BootUp => false,
-        _ => true,
-    }
+    sign != Sign::BootUp
 }
 
 fn is_running(sign: Sign) -> bool
     ensures { result ≡ runs sign }
 {
-    match sign {
-        Sign::Operational => true,
-        _ => false,
-    }
+    sign == Sign::Operational
 }
 
-fn quiet(entry: Entry) -> Stepped
-    ensures { result ≡ quietly «entry» }
+// A wait with one tick less, unless this is its last.
+fn lowered(left: u16) -> Option<u16>
+    ensures { result ≡ (if nat_lt 1 left then Some (left - 1) else None) }
 {
-    Stepped {
-        entry,
-        brought: Brought::Nothing,
-    }
+    if left > 1 { Some(left - 1) } else { None }
 }
 
-fn missed(e: Entry, letter: Letter) -> Stepped
-    ensures { result ≡ missed_by letter e }
-{
-    Stepped {
-        entry: Entry {
-            stage: Stage::Retry { left: PAUSE },
+impl Entry {
+    fn to(self, stage: Stage) -> Entry
+        ensures { result ≡ to stage self }
+    {
+        Entry { stage, ..self }
+    }
+
+    fn saying(self, word: Word) -> Entry
+        ensures { result ≡ saying word self }
+    {
+        Entry { word, ..self }
+    }
+
+    // A step that ends here and brings no setback.
+    fn quietly(self) -> Stepped
+        ensures { result ≡ quietly self }
+    {
+        Stepped {
+            entry: self,
+            brought: None,
+        }
+    }
+
+    fn missed(self, letter: Letter) -> Stepped
+        ensures { result ≡ missed_by letter self }
+    {
+        Stepped {
+            entry: Entry {
+                stage: Stage::Retry { left: PAUSE },
+                result: Some(letter),
+                once: true,
+                ..self
+            },
+            brought: Some(Setback::Missed(letter)),
+        }
+    }
+
+    fn lost(self) -> Stepped
+        ensures { result ≡ lost_by self }
+    {
+        Stepped {
+            entry: Entry {
+                stage: Stage::ResetDue {
+                    reset: ResetKind::Node,
+                },
+                word: Word::Loss,
+                result: Some(Letter::NoHeartbeat),
+                ..self
+            },
+            brought: Some(Setback::Lost),
+        }
+    }
+
+    fn passed(self, c: &Slave, running: bool) -> Entry
+        ensures { result ≡ passed_by (slave_of c.now) running self }
+    {
+        let letter = if running {
+            Letter::FoundRunning
+        } else {
+            Letter::Ready
+        };
+        Entry {
+            stage: Stage::Passed {
+                running,
+                started: false,
+                left: c.hb,
+            },
             result: Some(letter),
             once: true,
-            ..e
-        },
-        brought: Brought::Missed(letter),
+            ..self
+        }
     }
-}
 
-fn lost(e: Entry) -> Stepped
-    ensures { result ≡ lost_by e }
-{
-    Stepped {
-        entry: Entry {
-            stage: Stage::ResetDue {
-                reset: ResetKind::Node,
-            },
-            word: Word::Loss,
-            result: Some(Letter::NoHeartbeat),
-            ..e
-        },
-        brought: Brought::Lost,
-    }
-}
-
-fn passed(e: Entry, c: &Slave, running: bool) -> Entry
-    ensures { result ≡ passed_by (slave_of c.now) running e }
-{
-    let letter = if running {
-        Letter::FoundRunning
-    } else {
-        Letter::Ready
-    };
-    Entry {
-        stage: Stage::Passed {
-            running,
-            started: false,
-            left: c.hb,
-        },
-        result: Some(letter),
-        once: true,
-        ..e
-    }
-}
-
-fn gone_on(e: Entry, c: &Slave, next: Next) -> Entry
-    ensures { result ≡ gone_on (slave_of c.now) next e }
-{
-    match next {
-        Next::Ask(check) => Entry {
-            stage: Stage::Ask { check },
-            ..e
-        },
-        Next::ListenState => Entry {
-            stage: Stage::ListenState { left: c.hb },
-            ..e
-        },
-        Next::ListenControl => Entry {
-            stage: Stage::ListenControl {
+    fn gone_on(self, c: &Slave, next: Next) -> Entry
+        ensures { result ≡ gone_on (slave_of c.now) next self }
+    {
+        match next {
+            Next::Ask(check) => self.to(Stage::Ask { check }),
+            Next::ListenState => self.to(Stage::ListenState { left: c.hb }),
+            Next::ListenControl => self.to(Stage::ListenControl {
                 left: c.hb,
                 running: false,
-            },
-            ..e
-        },
-        Next::Pass => passed(e, c, false),
-    }
-}
-
-// A boot-up sends the slave to check 1 at any stage.
-fn boot_heard(e: Entry) -> Entry
-    ensures { result ≡ booted_by e }
-{
-    Entry {
-        stage: Stage::Ask { check: Check::Kind },
-        word: Word::BootUp,
-        booted: true,
-        result: None,
-        ..e
-    }
-}
-
-fn reset_due(e: Entry, reset: ResetKind) -> Entry
-    ensures { result ≡ to (stages.ResetDue reset) e }
-{
-    Entry {
-        stage: Stage::ResetDue { reset },
-        ..e
-    }
-}
-
-fn state_heard(e: Entry, c: &Slave, sign: Sign) -> Entry
-    ensures { result ≡ on_beat (slave_of c.now) sign (stages.ListenState 0) e }
-{
-    if is_running(sign) {
-        Entry {
-            stage: Stage::ListenControl {
-                left: c.hb,
-                running: true,
-            },
-            ..e
+            }),
+            Next::Pass => self.passed(c, false),
         }
-    } else {
-        reset_due(e, ResetKind::Communication)
     }
-}
 
-fn control_heard(e: Entry, c: &Slave, running: bool, sign: Sign) -> Entry
-    ensures { result ≡ on_beat (slave_of c.now) sign (stages.ListenControl 0 running) e }
-{
-    if running && !is_running(sign) {
-        reset_due(e, ResetKind::Communication)
-    } else {
-        passed(e, c, running)
-    }
-}
-
-fn due_heard(e: Entry, c: &Slave, sign: Sign) -> Entry
-    ensures { result ≡ (if (slave_of c.now).keep && runs sign then to (stages.Ask Check.Kind) e else e) }
-{
-    if c.keep && is_running(sign) {
+    // A boot-up sends the slave to check 1 at any stage.
+    fn booted_up(self) -> Entry
+        ensures { result ≡ booted_by self }
+    {
         Entry {
             stage: Stage::Ask { check: Check::Kind },
-            ..e
+            word: Word::BootUp,
+            booted: true,
+            result: None,
+            ..self
         }
-    } else {
-        e
     }
-}
 
-fn replied(e: Entry, c: &Slave, check: Check, reply: Reply) -> Stepped
-    ensures { result ≡ decided (slave_of c.now) check (verdict_of (slave_of c.now) check reply) e }
-{
-    match verdict(c, check, reply) {
-        Verdict::Met => quiet(gone_on(e, c, following(c, e.booted, check))),
-        Verdict::Missed(letter) => missed(e, letter),
-    }
-}
-
-pub(crate) fn step(was: Entry, c: &Slave, input: Input) -> Stepped
-    ensures { result ≡ stepped (slave_of c.now) was input }
-{
-    let e = match input {
-        Input::Heard(sign) => Entry {
-            word: word_of(sign),
-            ..was
-        },
-        _ => was,
-    };
-    match (e.stage, input) {
-        (_, Input::Heard(Sign::BootUp)) => quiet(boot_heard(e)),
-        (Stage::ListenState { .. }, Input::Heard(sign)) => quiet(state_heard(e, c, sign)),
-        (Stage::ListenControl { running, .. }, Input::Heard(sign)) => quiet(control_heard(
-            e, c, running, sign,
-        )),
-        (
+    // A heartbeat, once its state is the last word.
+    fn on_beat(self, c: &Slave, sign: Sign) -> Entry
+        ensures { result ≡ on_beat (slave_of c.now) sign self.stage self }
+    {
+        let running_now = is_running(sign);
+        match self.stage {
+            Stage::ListenState { .. } if running_now => self.to(Stage::ListenControl {
+                left: c.hb,
+                running: true,
+            }),
+            Stage::ListenControl { running, .. } if !running || running_now => {
+                self.passed(c, running)
+            }
+            Stage::ListenState { .. } | Stage::ListenControl { .. } => self.to(Stage::ResetDue {
+                reset: ResetKind::Communication,
+            }),
             Stage::Passed {
                 running,
                 started,
                 ..
+            } => self.to(Stage::Passed {
+                running,
+                started,
+                left: c.hb,
+            }),
+            Stage::ResetDue { .. } if c.keep && running_now => {
+                self.to(Stage::Ask { check: Check::Kind })
+            }
+            _ => self,
+        }
+    }
+
+    fn on_sign(self, c: &Slave, sign: Sign) -> Entry
+        ensures { result ≡ on_sign (slave_of c.now) sign self }
+    {
+        if is_heartbeat(sign) {
+            self.saying(Word::from(sign)).on_beat(c, sign)
+        } else {
+            self.booted_up()
+        }
+    }
+
+    // An answer decides the check whose request is open.
+    fn on_reply(self, c: &Slave, reply: Reply) -> Stepped
+        ensures { result ≡ on_reply (slave_of c.now) reply self.stage self }
+    {
+        let Stage::Asked { check, .. } = self.stage else {
+            return self.quietly();
+        };
+        match verdict(c, check, reply) {
+            Ok(()) => {
+                let next = following(c, self.booted, check);
+                self.gone_on(c, next).quietly()
+            }
+            Err(letter) => self.missed(letter),
+        }
+    }
+
+    // A tick lowers a wait, and one that is at its last tick runs out.
+    fn on_tick(self, c: &Slave) -> Stepped
+        ensures { result ≡ on_tick (slave_of c.now) self.stage self }
+    {
+        match self.stage {
+            Stage::AwaitBoot { left: Some(left) } => match lowered(left) {
+                Some(n) => self.to(Stage::AwaitBoot { left: Some(n) }).quietly(),
+                None => self.to(Stage::Ask { check: Check::Kind }).quietly(),
             },
-            Input::Heard(_),
-        ) => {
-            quiet(Entry {
-                stage: Stage::Passed {
-                    running,
-                    started,
-                    left: c.hb,
-                },
-                ..e
-            })
-        }
-        (Stage::ResetDue { .. }, Input::Heard(sign)) => quiet(due_heard(e, c, sign)),
-        (_, Input::Heard(_)) => quiet(e),
-        (Stage::Asked { check, .. }, Input::Replied(reply)) => replied(e, c, check, reply),
-        (_, Input::Replied(_)) => quiet(e),
-        (Stage::AwaitBoot { left: Some(left) }, Input::Tick) => {
-            if left > 1 {
-                quiet(Entry {
-                    stage: Stage::AwaitBoot {
-                        left: Some(left - 1),
-                    },
-                    ..e
-                })
-            } else {
-                quiet(Entry {
-                    stage: Stage::Ask { check: Check::Kind },
-                    ..e
-                })
-            }
-        }
-        (Stage::Asked { check, left }, Input::Tick) => {
-            if left > 1 {
-                quiet(Entry {
-                    stage: Stage::Asked {
-                        check,
-                        left: left - 1,
-                    },
-                    ..e
-                })
-            } else {
-                missed(e, unanswered(check))
-            }
-        }
-        (Stage::ListenState { left }, Input::Tick) => {
-            if left > 1 {
-                quiet(Entry {
-                    stage: Stage::ListenState { left: left - 1 },
-                    ..e
-                })
-            } else {
-                missed(e, Letter::NoHeartbeat)
-            }
-        }
-        (Stage::ListenControl { left, running }, Input::Tick) => {
-            if left > 1 {
-                quiet(Entry {
-                    stage: Stage::ListenControl {
-                        left: left - 1,
-                        running,
-                    },
-                    ..e
-                })
-            } else {
-                missed(e, Letter::NoControl)
-            }
-        }
-        (
+            Stage::Asked { check, left } => match lowered(left) {
+                Some(left) => self.to(Stage::Asked { check, left }).quietly(),
+                None => self.missed(unanswered(check)),
+            },
+            Stage::ListenState { left } => match lowered(left) {
+                Some(left) => self.to(Stage::ListenState { left }).quietly(),
+                None => self.missed(Letter::NoHeartbeat),
+            },
+            Stage::ListenControl { left, running } => match lowered(left) {
+                Some(left) => self.to(Stage::ListenControl { left, running }).quietly(),
+                None => self.missed(Letter::NoControl),
+            },
             Stage::Passed {
                 running,
                 started,
                 left,
-            },
-            Input::Tick,
-        ) => {
-            if c.hb == 0 {
-                quiet(e)
-            } else if left > 1 {
-                quiet(Entry {
-                    stage: Stage::Passed {
+            } if c.hb > 0 => match lowered(left) {
+                Some(left) => self
+                    .to(Stage::Passed {
                         running,
                         started,
-                        left: left - 1,
-                    },
-                    ..e
-                })
-            } else {
-                lost(e)
-            }
+                        left,
+                    })
+                    .quietly(),
+                None => self.lost(),
+            },
+            Stage::Retry { left } => match lowered(left) {
+                Some(left) => self.to(Stage::Retry { left }).quietly(),
+                None => self.to(Stage::Ask { check: Check::Kind }).quietly(),
+            },
+            _ => self.quietly(),
         }
-        (Stage::Retry { left }, Input::Tick) => {
-            if left > 1 {
-                quiet(Entry {
-                    stage: Stage::Retry { left: left - 1 },
-                    ..e
-                })
-            } else {
-                quiet(Entry {
-                    stage: Stage::Ask { check: Check::Kind },
-                    ..e
-                })
-            }
-        }
-        (_, Input::Tick) => quiet(e),
     }
-}
 
-// A keep-alive slave begins at check 1.
-pub(crate) fn first_entry(e: Entry, c: &Slave) -> Entry
-    ensures { result ≡ change_by Change.Begin (slave_of c.now) e }
-{
-    if c.keep {
+    pub(crate) fn step(self, c: &Slave, input: Input) -> Stepped
+        ensures { result ≡ stepped (slave_of c.now) self input }
+    {
+        match input {
+            Input::Heard(sign) => self.on_sign(c, sign).quietly(),
+            Input::Replied(reply) => self.on_reply(c, reply),
+            Input::Tick => self.on_tick(c),
+        }
+    }
+
+    // A keep-alive slave begins at check 1.
+    fn begun(self, c: &Slave) -> Entry
+        ensures { result ≡ change_by Change.Begin (slave_of c.now) self }
+    {
+        if c.keep {
+            self.to(Stage::Ask { check: Check::Kind })
+        } else {
+            self
+        }
+    }
+
+    // A reset that names or covers the slave is put.
+    fn reset_put(self) -> Entry
+        ensures { result ≡ reset_put self }
+    {
         Entry {
-            stage: Stage::Ask { check: Check::Kind },
-            ..e
+            stage: Stage::AwaitBoot { left: Some(PAUSE) },
+            word: Word::Reset,
+            booted: false,
+            result: None,
+            ..self
         }
-    } else {
-        e
     }
-}
 
-// A reset that names or covers the slave is put.
-pub(crate) fn reset_put(e: Entry) -> Entry
-    ensures { result ≡ reset_put e }
-{
-    Entry {
-        stage: Stage::AwaitBoot { left: Some(PAUSE) },
-        word: Word::Reset,
-        booted: false,
-        result: None,
-        ..e
+    // The request of its check is put.
+    fn request_put(self, wait: u16) -> Entry
+        ensures { result ≡ request_put wait self }
+    {
+        match self.stage {
+            Stage::Ask { check } => self.to(Stage::Asked { check, left: wait }),
+            _ => self,
+        }
     }
-}
 
-// The request of its check is put.
-pub(crate) fn request_put(e: Entry, wait: u16) -> Entry
-    ensures { result ≡ request_put wait e }
-{
-    match e.stage {
-        Stage::Ask { check } => Entry {
-            stage: Stage::Asked { check, left: wait },
-            ..e
-        },
-        _ => e,
-    }
-}
-
-// A start that names or covers it is put.
-pub(crate) fn start_put(e: Entry) -> Entry
-    ensures { result ≡ start_put e }
-{
-    match e.stage {
-        Stage::Passed { running, left, .. } => Entry {
-            stage: Stage::Passed {
+    // A start that names or covers it is put.
+    fn start_put(self) -> Entry
+        ensures { result ≡ start_put self }
+    {
+        match self.stage {
+            Stage::Passed { running, left, .. } => self.to(Stage::Passed {
                 running,
                 started: true,
                 left,
-            },
-            ..e
-        },
-        _ => e,
+            }),
+            _ => self,
+        }
     }
-}
 
-pub(crate) fn has_passed(e: &Entry) -> bool
-    ensures { result ≡ is_passed e.now.stage }
-{
-    match e.stage {
-        Stage::Passed { .. } => true,
-        _ => false,
+    pub(crate) fn changed(self, c: &Slave, change: Change) -> Entry
+        ensures { result ≡ change_by change (slave_of c.now) self }
+    {
+        match change {
+            Change::Begin => self.begun(c),
+            Change::Reset => self.reset_put(),
+            Change::Request(wait) => self.request_put(wait),
+            Change::Start => self.start_put(),
+        }
     }
-}
 
-pub(crate) fn is_cleared(e: &Entry, c: &Slave) -> bool
-    ensures { result ≡ is_cleared (slave_of c.now) e.now }
-{
-    if c.mandatory { has_passed(e) } else { e.once }
-}
-
-pub(crate) fn is_spared(e: &Entry, c: &Slave) -> bool
-    ensures { result ≡ is_spared (slave_of c.now) e.now }
-{
-    if !c.keep {
-        return false;
+    pub(crate) fn has_passed(&self) -> bool
+        ensures { result ≡ is_passed self.now.stage }
+    {
+        matches!(self.stage, Stage::Passed { .. })
     }
-    match e.word {
-        Word::Silence => true,
-        Word::Operational => true,
-        _ => false,
-    }
-}
 
-pub(crate) fn duty_of(e: &Entry, go: bool) -> Option<Duty>
-    ensures { result ≡ duty_of go e.now.stage }
-{
-    match e.stage {
-        Stage::ResetDue { reset } => Some(Duty::Reset(reset)),
-        Stage::Ask { check } => Some(Duty::Request(check)),
-        Stage::Passed {
-            running: false,
-            started: false,
-            ..
-        } => { if go { Some(Duty::Start) } else { None } }
-        _ => None,
+    pub(crate) fn is_cleared(&self, c: &Slave) -> bool
+        ensures { result ≡ is_cleared (slave_of c.now) self.now }
+    {
+        if c.mandatory {
+            self.has_passed()
+        } else {
+            self.once
+        }
+    }
+
+    pub(crate) fn is_spared(&self, c: &Slave) -> bool
+        ensures { result ≡ is_spared (slave_of c.now) self.now }
+    {
+        c.keep && matches!(self.word, Word::Silence | Word::Operational)
+    }
+
+    pub(crate) fn duty(&self, go: bool) -> Option<Duty>
+        ensures { result ≡ duty_of go self.now.stage }
+    {
+        match self.stage {
+            Stage::ResetDue { reset } => Some(Duty::Reset(reset)),
+            Stage::Ask { check } => Some(Duty::Request(check)),
+            Stage::Passed {
+                running: false,
+                started: false,
+                ..
+            } if go => Some(Duty::Start),
+            _ => None,
+        }
     }
 }

@@ -1,15 +1,30 @@
 // What the master keeps of its slaves, and what can happen to them.
 ghost use Rattle.std.specs.Prelude.{◌≡◌};
 ghost use Rattle.master.specs.Calls.{letters_of};
+ghost use Rattle.master.specs.Network.{command_of};
+ghost use Rattle.master.specs.Step.{word_of};
 
 use frames::error_control::Sign;
+use frames::nmt::Command;
 use frames::sdo::Reply;
+use std::fmt;
 
 // The two resets: of the node, 81h, and of its communication, 82h.
 #[derive(Clone, Copy)]
 pub enum ResetKind {
     Node,
     Communication,
+}
+
+impl From<ResetKind> for Command {
+    ghost from_gives = { λ k c. c ≡ command_of k };
+
+    fn from(reset: ResetKind) -> Command {
+        match reset {
+            ResetKind::Node => Command::ResetNode,
+            ResetKind::Communication => Command::ResetCommunication,
+        }
+    }
 }
 
 // A check of a slave's try that asks by a request and waits for the answer.
@@ -75,6 +90,12 @@ impl Letter {
     }
 }
 
+impl fmt::Display for Letter {
+    fn fmt<W: fmt::Write>(&self, f: &mut fmt::Formatter<W>) -> fmt::Result {
+        f.write_str(self.text())
+    }
+}
+
 // The latest that was heard from a slave or done to it.
 #[derive(Clone, Copy)]
 pub enum Word {
@@ -85,6 +106,19 @@ pub enum Word {
     PreOperational,
     Reset,
     Loss,
+}
+
+impl From<Sign> for Word {
+    ghost from_gives = { λ s w. w ≡ word_of s };
+
+    fn from(sign: Sign) -> Word {
+        match sign {
+            Sign::BootUp => Word::BootUp,
+            Sign::Stopped => Word::Stopped,
+            Sign::Operational => Word::Operational,
+            Sign::PreOperational => Word::PreOperational,
+        }
+    }
 }
 
 // Where a slave's try stands. Waits count the ticks that are left.
@@ -146,25 +180,18 @@ pub enum Input {
     Tick,
 }
 
-// What a step brought besides the new entry.
+// What can go wrong in a step: a check is missed, or a slave that had passed is lost.
 #[derive(Clone, Copy)]
-pub enum Brought {
-    Nothing,
+pub enum Setback {
     Missed(Letter),
     Lost,
 }
 
+// What a step made of an entry, and whether it brought a setback.
 #[derive(Clone, Copy)]
 pub struct Stepped {
     pub entry: Entry,
-    pub brought: Brought,
-}
-
-// What answers a check.
-#[derive(Clone, Copy)]
-pub enum Verdict {
-    Met,
-    Missed(Letter),
+    pub brought: Option<Setback>,
 }
 
 // What follows a check that is met.
@@ -210,7 +237,6 @@ pub enum Quality {
 // A reset of all nodes, at once or one by one.
 #[derive(Clone, Copy)]
 pub enum Sweep {
-    Over,
     // nothing is put yet
     Begun { reset: ResetKind },
     // one by one; `passed` is the last node that was come to
@@ -224,7 +250,7 @@ pub enum Phase {
     Halted,
 }
 
-// What a work would put.
+// What a work would put. Nothing is a plan like the others, and no missing one: carried out, it ends a sweep.
 #[derive(Clone, Copy)]
 pub enum Plan {
     Nothing,

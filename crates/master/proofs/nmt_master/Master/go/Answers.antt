@@ -1,14 +1,14 @@
 use Rattle.std.proofs.Common.{sym, subst}
-use Rattle.sheet.proofs.Keeping.{keeps_to}
-use Rattle.sheet.specs.Sheets.{lines_of}
-use Rattle.master.specs.Masters.{machine_by}
-use Rattle.master.specs.Session.{Machine}
 use Rattle.master.specs.FromPort.{Tells}
+use Rattle.master.specs.Masters.{port_by}
+use Rattle.master.specs.Session.{Machine}
+use Rattle.master.specs.Views.{view}
+use Rattle.master.proofs.Kept.{kept}
 use Rattle.master.proofs.Standing.{tells}
 use Rattle.master.proofs.nmt_master.Master.go.Goals as goal
 
-pub returns : goal.returns
-returns g c =
-    let m = c.args.self.now in
-    let at : Machine = machine_by g.P.Port.waiting g.P.Port.most g.P.Port.gap g.P.Port.pause m in
-    record { answer = c.go.ensures; law = subst (Tells at) (sym c.go.ensures) (tells at (keeps_to (lines_of m.net.sheet) m.net.sheet.kept)) }
+pub returns-clause-law : goal.returns-clause-law
+returns-clause-law g c =
+    let m = c.self.inside in
+    let at : Machine = record { net = view m.net; port = port_by g.P.Port.waiting g.P.Port.most g.P.Port.gap g.P.Port.pause m.port } in
+    subst (λ x. Tells x c.go.result) c.self.view_is (subst (Tells at) (sym c.go.ensures) (tells at (kept m.net)))

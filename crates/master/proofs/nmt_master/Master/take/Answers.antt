@@ -1,12 +1,11 @@
-use Rattle.sheet.proofs.Keeping.{keeps_to}
-use Rattle.sheet.specs.Sheets.{lines_of}
 use Rattle.master.specs.Views.{view}
 use Rattle.master.proofs.Calling.{took}
+use Rattle.master.proofs.Kept.{kept}
 use Rattle.master.proofs.nmt_master.Master.take.Goals as goal
 
 pub returns : goal.returns
 returns g c =
-    let m = c.args.self.now in
+    let m = c.self.inside in
     let e = c.take.ensures in
-    let t = took (view m.net) (g.P.Port.waiting m.port) _ (g.P.Port.most m.port) _ (g.P.Port.gap m.port) _ (g.P.Port.pause m.port) _ (keeps_to (lines_of m.net.sheet) m.net.sheet.kept) c.take.result e.answer e.list e.pauses e.most_same e.gap_same in
-    record { answer = e.answer; state = t.state; law = t.law }
+    let t = took (view m.net) (g.P.Port.waiting m.port) _ (g.P.Port.most m.port) _ (g.P.Port.gap m.port) _ (g.P.Port.pause m.port) _ (kept m.net) c.take.result e.answer e.list e.pauses e.most_same e.gap_same _ c.self.view_is in
+    record { answer = t.answer; state = t.state; law = t.law }
