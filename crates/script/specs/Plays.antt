@@ -5,10 +5,14 @@ use Rattle.master.specs.Masters.{hearing}
 use Rattle.master.specs.Session.{Machine, Call, pass, work, take, after}
 use Rattle.script.specs.Sessions.{Order, heard, works, takes, ticks, line_in, lines}
 
+-- a step, so many times
+abbrev pub times : {A : Type 0} → (A → A) → ℕ → A → A
+times f zero a = a
+times f (suc n) a = times f n (f a)
+
 -- a call, so many times
 abbrev pub repeated : Call → ℕ → Machine → Machine
-repeated c zero m = m
-repeated c (suc n) m = repeated c n (after c m)
+repeated c n m = times (after c) n m
 
 -- what a line asks for is done; a frame that is refused changes nothing
 abbrev pub done : Order → Machine → Machine

@@ -12,7 +12,7 @@ pub mod text;
 
 pub use lines::{Data, Line};
 pub use reader::{next_line, read_line};
-pub use ring::{ring_master, ring_places};
+pub use ring::{RingMaster, ring_master, ring_places};
 pub use session::{play, print_report, run};
 pub use sheet::cut;
 pub use style::{Style, UnknownStyle};

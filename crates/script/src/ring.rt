@@ -2,7 +2,6 @@
 ghost use Rattle.std.specs.Prelude.{◌≡◌, [], ◌∷◌, map, replicate};
 ghost use Rattle.frames.specs.Contents.{content_of};
 ghost use Rattle.master.specs.FromPort.{fresh_machine};
-ghost use Rattle.master.specs.Masters.{machine_by};
 ghost use Rattle.ports.specs.Gaps.{gap_ticks};
 ghost use Rattle.sheet.specs.Sheets.{lines_of};
 
@@ -11,8 +10,10 @@ use frames::nmt::{Command, NmtMessage};
 use frames::queue::Queue;
 use master::Master;
 use ports::gap_port::GapPort;
-use ports::port::Port;
 use sheet::Sheet;
+
+// A master with the port of all programs.
+pub type RingMaster<'a> = Master<GapPort<Queue<'a, Frame>>>;
 
 // The places of a ring, with a frame in each that never leaves.
 pub fn ring_places() -> [Frame; 64]
@@ -26,11 +27,8 @@ pub fn ring_places() -> [Frame; 64]
 }
 
 // A fresh master with a sheet; nothing waits in its port yet.
-pub fn ring_master<'a>(
-    sheet: Sheet,
-    places: &'a mut [Frame; 64],
-) -> Master<GapPort<Queue<'a, Frame>>>
-    ensures { machine_by ⟦<GapPort<Queue<'a, Frame>> as Port>⟧.waiting ⟦<GapPort<Queue<'a, Frame>> as Port>⟧.most ⟦<GapPort<Queue<'a, Frame>> as Port>⟧.gap ⟦<GapPort<Queue<'a, Frame>> as Port>⟧.pause result ≡ fresh_machine (lines_of sheet) (record { waiting = []; most = 64; gap = gap_ticks sheet.inhibit; pause = 0 }) }
+pub fn ring_master(sheet: Sheet, places: &mut [Frame; 64]) -> RingMaster<'_>
+    ensures { result ≡ fresh_machine (lines_of sheet) (record { waiting = []; most = 64; gap = gap_ticks sheet.inhibit; pause = 0 }) }
 {
     let inhibit = sheet.inhibit;
     let Ok(ring) = Queue::new(places) else {

@@ -1,8 +1,6 @@
 // A session, run on a fresh master by the single calls.
 ghost use Rattle.std.specs.Prelude.{◌≡◌, OnOk};
-ghost use Rattle.master.specs.Masters.{machine_by};
-ghost use Rattle.master.specs.Session.{Call, pass, work, take, after};
-ghost use Rattle.script.specs.Plays.{repeated, done, played};
+ghost use Rattle.script.specs.Plays.{times, done, played};
 ghost use Rattle.script.specs.Views.{line_of};
 
 use crate::lines::Line;
@@ -19,13 +17,13 @@ use std::alloc::{AllocError, Global};
 use std::io::Write;
 
 // Makes a call so many times, unless one of them ends in an error.
-fn repeat<P: Port, F: FnMut(&mut Master<P>) -> anyhow::Result<()>>(
-    master: &mut Master<P>,
+fn repeat<M, F: FnMut(&mut M) -> anyhow::Result<()>>(
+    master: &mut M,
     count: u32,
     mut call: F,
 ) -> anyhow::Result<()>
     requires { (f : F) (m : _) → F.pre f m }
-    ensures { (kind : Call) → ((f : F) (m : _) (r : _) (n : _) (g : F) → F.step f m r n g → OnOk r (machine_by P.Port.waiting P.Port.most P.Port.gap P.Port.pause n.now ≡ after kind (machine_by P.Port.waiting P.Port.most P.Port.gap P.Port.pause m.now))) → OnOk result (machine_by P.Port.waiting P.Port.most P.Port.gap P.Port.pause master.new ≡ repeated kind count (machine_by P.Port.waiting P.Port.most P.Port.gap P.Port.pause master.old)) }
+    ensures { (step : M → M) → ((f : F) (m : _) (r : _) (n : _) (g : F) → F.step f m r n g → OnOk r (n.now ≡ step m.now)) → OnOk result (master.new ≡ times step count master.old) }
 {
     for _ in 0..count {
         call(master)?;
@@ -39,7 +37,7 @@ fn carry_out<W: Write, P: Port>(
     master: &mut Master<P>,
     line: Line,
 ) -> anyhow::Result<()>
-    ensures { OnOk result (machine_by P.Port.waiting P.Port.most P.Port.gap P.Port.pause master.new ≡ done (line_of line) (machine_by P.Port.waiting P.Port.most P.Port.gap P.Port.pause master.old)) }
+    ensures { OnOk result (master.new ≡ done (line_of line) master.old) }
 {
     match line {
         Line::Heard { id, data } => printer.refusal(master.heard(id, data.as_slice())),
@@ -95,7 +93,7 @@ pub fn play<W: Write, P: Port>(
     master: &mut Master<P>,
     session: &[u8],
 ) -> anyhow::Result<()>
-    ensures { OnOk result (machine_by P.Port.waiting P.Port.most P.Port.gap P.Port.pause master.new ≡ played session.now (machine_by P.Port.waiting P.Port.most P.Port.gap P.Port.pause master.old)) }
+    ensures { OnOk result (master.new ≡ played session.now master.old) }
 {
     let mut printer = Printer { heap, style, out };
     for text in Lines::new(session) {

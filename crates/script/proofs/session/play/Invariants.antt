@@ -1,5 +1,4 @@
 use Rattle.std.proofs.Common.{◌≡◌}
-use Rattle.master.specs.Masters.{machine_by}
 use Rattle.script.specs.Plays.{played}
 use Rattle.script.specs.Sessions.{lines}
 use Rattle.script.proofs.Playing.{done_lines}
@@ -8,5 +7,5 @@ use Rattle.script.proofs.session.play.Given as goal
 -- what the lines that are left make of the master is what the whole text makes of it
 abbrev pub invariant-loop-text : goal.invariant-loop-text
 invariant-loop-text g l =
-    done_lines (lines l.text-iterator.rest.now) (machine_by g.P.Port.waiting g.P.Port.most g.P.Port.gap g.P.Port.pause l.master)
-    ≡ played l.session (machine_by g.P.Port.waiting g.P.Port.most g.P.Port.gap g.P.Port.pause l.initial.master)
+    done_lines (lines l.text-iterator.rest.now) l.master
+    ≡ played l.session l.initial.master
