@@ -10,13 +10,7 @@ use crate::entry::{Entry, Words};
 use crate::number::number;
 use frames::frame::Frame;
 use script::cut;
-
-// What stands after a prefix of one byte.
-fn after<'a>(s: &'a [u8], prefix: &[u8; 1]) -> Option<&'a [u8]>
-    ensures { option_map held result ≡ after_first (slice_index prefix.now 0) s.now }
-{
-    s.strip_prefix(prefix)
-}
+use sheet::Few;
 
 // A line may end in a carriage return.
 fn trimmed(line: &[u8]) -> &[u8]
@@ -28,8 +22,8 @@ fn trimmed(line: &[u8]) -> &[u8]
 fn words(line: &[u8]) -> Option<Words<'_>>
     ensures { option_map words_of result ≡ words_in line.now }
 {
-    let (stamp, rest) = cut(after(line, b"(")?, b')')?;
-    let (interface, message) = cut(after(rest, b" ")?, b' ')?;
+    let (stamp, rest) = cut(line.strip_prefix(b"(")?, b')')?;
+    let (interface, message) = cut(rest.strip_prefix(b" ")?, b' ')?;
     if interface.is_empty() {
         return None;
     }
@@ -70,19 +64,16 @@ fn frame_with(id: u32, text: &[u8]) -> Option<Frame>
     if text.len() > 16 {
         return None;
     }
-    let mut bytes = [0u8; 8];
-    let mut n = 0;
+    let mut bytes = Few::<u8, 8>::new(0);
     let mut rest = text;
     while let [high, low, more @ ..] = rest {
-        let byte = number(16, &[*high, *low])?;
-        bytes[n] = byte as u8;
-        n += 1;
+        bytes.push(number(16, &[*high, *low])? as u8);
         rest = more;
     }
     if !rest.is_empty() {
         return None;
     }
-    Frame::new(id, &bytes[0..n]).ok()
+    Frame::new(id, bytes.as_slice()).ok()
 }
 
 fn frame(message: &[u8]) -> Option<Frame>
