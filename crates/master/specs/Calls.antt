@@ -1,4 +1,4 @@
--- The numbers of the master's refusals, and the letters of its results.
+-- The numbers and sentences of the master's refusals, and the letters of its results.
 use Rattle.std.specs.Prelude.{ℕ, List, codes}
 use Rattle.master.specs.declared.calls.Refusal.{Refusal}
 use Rattle.master.specs.declared.calls.Refusal.TheVariants.{NoNode, NoFrame, Halted, NoRoom}
@@ -12,6 +12,13 @@ number_of NoNode = 10
 number_of NoFrame = 11
 number_of Halted = 12
 number_of NoRoom = 13
+
+-- Each refusal in words for the fitter.
+abbrev pub sentence_of : Refusal → List ℕ
+sentence_of NoNode = codes "a node is from 1 to 127"
+sentence_of NoFrame = codes "no frame: the identifier is above 2047, or there are more than 8 bytes"
+sentence_of Halted = codes "the master is halted"
+sentence_of NoRoom = codes "something is due, and the port is full"
 
 -- The letter of each result; OK for a slave that passed.
 abbrev pub letters_of : Letter → List ℕ

@@ -1,7 +1,10 @@
 -- A master and its port as the machine that they stand for, and what its public calls answer and leave.
 use Rattle.std.specs.Prelude.{ℕ, Bool, true, false, cond, ◌&&◌, List, [], ◌∷◌, map, length, Ok, Err, Option, Result, ◌==◌, nat_le}
 use Rattle.frames.specs.Contents.{Content, content_of}
-use Rattle.frames.specs.declared.frame.Frame.{Frame}
+use Rattle.ports.specs.declared.port.Port.{Ghosts}
+use Rattle.sheet.specs.Sheets.{lines_of}
+use Rattle.sheet.specs.declared.model.sheet.Sheet.{Sheet}
+use Rattle.master.specs.FromPort.{fresh_machine}
 use Rattle.master.specs.Network.{State, heard_by, result_of}
 use Rattle.master.specs.Session.{PortState, Machine, with_net, Call, hear, pass, work, take, placed, idle, refused, Step, hears}
 use Rattle.master.specs.Session.{Worked as Outcome}
@@ -16,8 +19,12 @@ use Rattle.master.specs.declared.calls.Worked.TheVariants.{Put, NothingDue}
 use Rattle.master.specs.declared.types.Letter.{Letter}
 
 -- A port by its four parts: what waits in it, how many can, the gap and the pause. Frames stand by their contents.
-abbrev pub port_by : {P : Type 0} → (P → List Frame) → (P → ℕ) → (P → ℕ) → (P → ℕ) → P → PortState
-port_by waiting most gap pause p = record { waiting = map content_of (waiting p); most = most p; gap = gap p; pause = pause p }
+abbrev pub port_by : {P : Type 0} → Ghosts P → P → PortState
+port_by is p = record { waiting = map content_of (is.waiting p); most = is.most p; gap = is.gap p; pause = is.pause p }
+
+-- A fresh master of a sheet and a port, whatever waits in it.
+abbrev pub begun : {P : Type 0} → Ghosts P → Sheet → P → Machine
+begun is s p = fresh_machine (lines_of s) (port_by is p)
 
 -- A frame has an identifier up to 2047 and up to 8 bytes.
 abbrev pub is_frame : ℕ → List ℕ → Bool

@@ -1,8 +1,10 @@
 // The calls of a session, and what they answer.
-ghost use Rattle.std.specs.Prelude.{◌≡◌};
-ghost use Rattle.master.specs.Calls.{number_of};
+ghost use Rattle.std.specs.Prelude.{◌≡◌, Some};
+ghost use Rattle.master.specs.Calls.{number_of, sentence_of};
 
 use frames::frame::Frame;
+use std::error::Error;
+use std::fmt;
 
 // A call that can change a master or its port.
 #[derive(Clone, Copy)]
@@ -18,14 +20,14 @@ pub enum Call {
 }
 
 // What a frame that was heard was to the master.
-#[derive(Clone, Copy, PartialEq, Eq)]
+#[derive(Clone, Copy, Debug, PartialEq, Eq)]
 pub enum Use {
     Used,
     Unused,
 }
 
 // What a work did.
-#[derive(Clone, Copy, PartialEq, Eq)]
+#[derive(Clone, Copy, Debug, PartialEq, Eq)]
 pub enum Worked {
     // one frame was put in the port
     Put,
@@ -33,7 +35,7 @@ pub enum Worked {
 }
 
 // Why a call is refused. A refused call changes nothing.
-#[derive(Clone, Copy, PartialEq, Eq)]
+#[derive(Clone, Copy, Debug, PartialEq, Eq)]
 pub enum Refusal {
     // the node asked for is 0 or above 127
     NoNode,
@@ -58,6 +60,23 @@ impl Refusal {
         }
     }
 }
+
+// A sentence for the fitter.
+impl fmt::Display for Refusal {
+    ghost output = { λ r. Some (sentence_of r) };
+
+    fn fmt<W: fmt::Write>(&self, f: &mut fmt::Formatter<W>) -> fmt::Result {
+        f.write_str(match self {
+            Refusal::NoNode => "a node is from 1 to 127",
+            Refusal::NoFrame =>
+                "no frame: the identifier is above 2047, or there are more than 8 bytes",
+            Refusal::Halted => "the master is halted",
+            Refusal::NoRoom => "something is due, and the port is full",
+        })
+    }
+}
+
+impl Error for Refusal {}
 
 // What a call answered.
 #[derive(Clone, Copy)]

@@ -154,15 +154,23 @@ impl Course {
     }
 
     // A step of a slave, and what it brings.
+    #[cold]
     fn step(&mut self, sheet: &Sheet, c: &Slave, input: Input)
         ensures { state_of sheet.now self.new ≡ step_in (slave_of c.now) input (state_of sheet.now self.old) }
     {
-        if self.table.shortens(c, input) {
-            return;
-        }
         let brought = self.table.step(c, input);
         if c.mandatory {
             self.bring(sheet, brought);
+        }
+    }
+
+    // The same, by the short way where it serves.
+    #[inline]
+    fn advance(&mut self, sheet: &Sheet, c: &Slave, input: Input)
+        ensures { state_of sheet.now self.new ≡ step_in (slave_of c.now) input (state_of sheet.now self.old) }
+    {
+        if !self.table.shortens(c, input) {
+            self.step(sheet, c, input);
         }
     }
 
@@ -175,7 +183,7 @@ impl Course {
         }
         self.clock = self.clock.saturating_add(1);
         for c in &sheet.slaves {
-            self.step(sheet, c, Input::Tick);
+            self.advance(sheet, c, Input::Tick);
             if !self.is_running() {
                 return;
             }
@@ -289,7 +297,7 @@ impl Network {
         let Some(input) = self.course.input(c, frame) else {
             return Use::Unused;
         };
-        self.course.step(&roll.sheet, c, input);
+        self.course.advance(&roll.sheet, c, input);
         Use::Used
     }
 

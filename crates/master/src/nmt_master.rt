@@ -5,7 +5,7 @@ ghost use Rattle.frames.specs.Contents.{content_of};
 ghost use Rattle.ports.specs.Meaning.{given};
 ghost use Rattle.sheet.specs.Sheets.{lines_of};
 ghost use Rattle.master.specs.FromPort.{fresh_machine, LeadsFrom, Carries, Tells};
-ghost use Rattle.master.specs.Masters.{port_by, use_of, called, hearing, hearing_steps, worked_by, asked};
+ghost use Rattle.master.specs.Masters.{port_by, begun, use_of, called, hearing, hearing_steps, worked_by, asked};
 ghost use Rattle.master.specs.Network.{heard_by, going, is_halted};
 ghost use Rattle.master.specs.Rows.{shown_by, shown_at};
 ghost use Rattle.master.specs.Session.{hear, pass, work, take, after, step_of, works_on, takes, leaves};
@@ -33,14 +33,14 @@ impl<P: Port> Model for Master<P> {
 
     ghost Value = { Machine };
 
-    ghost view = { λ m. record { net = state_of m.net; port = port_by P.waiting P.most P.gap P.pause m.port } };
+    ghost view = { λ m. record { net = state_of m.net; port = port_by P.Port m.port } };
 }
 
 impl<P: Port> Master<P> {
     // A fresh master: a sweep 82h is begun, and nobody has passed.
     pub fn new(sheet: Sheet, port: P) -> Master<P>
-        ensures state { result ≡ fresh_machine (lines_of sheet) (port_by P.waiting P.most P.gap P.pause port) }
-        ensures law { LeadsFrom (lines_of sheet) (port_by P.waiting P.most P.gap P.pause port) [] result }
+        ensures state { result ≡ begun P.Port sheet port }
+        ensures law { LeadsFrom (lines_of sheet) (port_by P.Port port) [] result }
     {
         Master {
             net: Network::new(sheet),

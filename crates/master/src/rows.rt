@@ -2,7 +2,7 @@
 ghost use Rattle.std.specs.Prelude.{◌≡◌, map};
 ghost use Rattle.frames.specs.Contents.{content_of};
 ghost use Rattle.sheet.specs.Sheets.{lines_of};
-ghost use Rattle.master.specs.Masters.{port_by};
+ghost use Rattle.master.specs.Masters.{begun};
 ghost use Rattle.master.specs.Rows.{call_of, shown_of, shown_all, after_all, steps_all, trace_in};
 ghost use Rattle.master.specs.FromPort.{fresh_machine, StandsFrom};
 
@@ -22,9 +22,9 @@ pub struct Session<P: Port> {
 // written beside them.
 pub fn run_session<P: Port>(sheet: Sheet, port: P, row: &mut [Exchange]) -> Session<P>
     ensures calls { map call_of row.new ≡ map call_of row.old }
-    ensures answers { map shown_of row.new ≡ shown_all (map call_of row.old) (fresh_machine (lines_of sheet) (port_by P.waiting P.most P.gap P.pause port)) }
-    ensures state { result.master ≡ after_all (map call_of row.old) (fresh_machine (lines_of sheet) (port_by P.waiting P.most P.gap P.pause port)) }
-    ensures trace { trace_in (P.most port) (map content_of (P.waiting port)) (map shown_of row.new) result.master.port.waiting ≡ steps_all (map call_of row.old) (fresh_machine (lines_of sheet) (port_by P.waiting P.most P.gap P.pause port)) }
+    ensures answers { map shown_of row.new ≡ shown_all (map call_of row.old) (begun P.Port sheet port) }
+    ensures state { result.master ≡ after_all (map call_of row.old) (begun P.Port sheet port) }
+    ensures trace { trace_in (P.most port) (map content_of (P.waiting port)) (map shown_of row.new) result.master.port.waiting ≡ steps_all (map call_of row.old) (begun P.Port sheet port) }
     ensures stands { StandsFrom (lines_of sheet) (map content_of (P.waiting port)) (trace_in (P.most port) (map content_of (P.waiting port)) (map shown_of row.new) result.master.port.waiting) result.master.port.waiting result.go }
 {
     let mut master = Master::new(sheet, port);

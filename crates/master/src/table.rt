@@ -48,18 +48,18 @@ impl Table {
         ensures { Shortened (slave_of c.now) input self.old.entries result self.new.entries }
     {
         let entry = &mut self.entries[c.node as usize - 1];
-        match (&mut entry.stage, input) {
-            (Stage::Passed { left, .. }, Input::Tick) if c.hb > 0 && *left > 1 => {
-                *left -= 1;
-                true
-            }
-            (Stage::Passed { left, .. }, Input::Heard(sign)) if is_heartbeat(sign) => {
+        let Stage::Passed { left, .. } = &mut entry.stage else {
+            return false;
+        };
+        match input {
+            Input::Tick if c.hb > 0 && *left > 1 => *left -= 1,
+            Input::Heard(sign) if is_heartbeat(sign) => {
                 *left = c.hb;
                 entry.word = Word::from(sign);
-                true
             }
-            _ => false,
+            _ => return false,
         }
+        true
     }
 
     // One slave's step; the others stay.

@@ -1,5 +1,5 @@
 // What the master keeps of its slaves, and what can happen to them.
-ghost use Rattle.std.specs.Prelude.{◌≡◌};
+ghost use Rattle.std.specs.Prelude.{◌≡◌, Some};
 ghost use Rattle.master.specs.Calls.{letters_of};
 ghost use Rattle.master.specs.Network.{command_of};
 ghost use Rattle.master.specs.Step.{word_of};
@@ -42,7 +42,7 @@ pub enum Check {
 }
 
 // What a slave's result says. The letters are those of CiA 302-2.
-#[derive(Clone, Copy)]
+#[derive(Clone, Copy, Debug, PartialEq, Eq)]
 pub enum Letter {
     // A: the sheet does not list the node
     NotListed,
@@ -91,12 +91,14 @@ impl Letter {
 }
 
 impl fmt::Display for Letter {
+    ghost output = { λ l. Some (letters_of l) };
+
     fn fmt<W: fmt::Write>(&self, f: &mut fmt::Formatter<W>) -> fmt::Result {
         f.write_str(self.text())
     }
 }
 
-// The latest that was heard from a slave or done to it.
+// The latest that was heard from a slave or done to it. Silence is a word like the others: the law of resets speaks of it.
 #[derive(Clone, Copy)]
 pub enum Word {
     Silence,
@@ -211,7 +213,7 @@ pub enum Duty {
     Start,
 }
 
-// What is done to an entry besides its steps.
+// What is done to an entry besides its steps: a value and no closure, since contracts and laws name what is done.
 #[derive(Clone, Copy)]
 pub enum Change {
     // a keep-alive slave begins at check 1
@@ -224,7 +226,7 @@ pub enum Change {
     Start,
 }
 
-// What slaves are counted for.
+// What slaves are counted for: a value and no closure, since the contract of a count names what is counted.
 #[derive(Clone, Copy)]
 pub enum Quality {
     Cleared,

@@ -10,5 +10,5 @@ use Rattle.master.proofs.nmt_master.Master.go.Goals as goal
 pub returns-clause-law : goal.returns-clause-law
 returns-clause-law g c =
     let m = c.self.inside in
-    let at : Machine = record { net = view m.net; port = port_by g.P.Port.waiting g.P.Port.most g.P.Port.gap g.P.Port.pause m.port } in
+    let at : Machine = record { net = view m.net; port = port_by g.P.Port m.port } in
     subst (λ x. Tells x c.go.result) c.self.view_is (subst (Tells at) (sym c.go.ensures) (tells at (kept m.net)))

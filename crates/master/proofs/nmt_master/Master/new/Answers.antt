@@ -7,5 +7,5 @@ use Rattle.master.proofs.nmt_master.Master.new.Goals as goal
 
 pub returns-clause-law : goal.returns-clause-law
 returns-clause-law g c =
-    let p : PortState = port_by g.P.Port.waiting g.P.Port.most g.P.Port.gap g.P.Port.pause c.args.port in
+    let p : PortState = port_by g.P.Port c.args.port in
     subst (λ s. LeadsFrom (lines_of c.args.sheet) p [] (record { net = s; port = p })) (sym c.new.ensures) fresh
