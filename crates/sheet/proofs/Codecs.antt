@@ -20,15 +20,15 @@ use Rattle.sheet.proofs.Numbers.{own, reads_back, writes_back, digit_range}
 
 pub bind_ok : {A B E : Type 0} (r : Result A E) (f : A → Result B E) (b : B) → bind r f ≡ Ok b → (a : A) × (r ≡ Ok a) × (f a ≡ Ok b)
 bind_ok (Ok a) f b e = (a, refl, e)
-bind_ok (Err x) f b e = let z : ◌≡◌ {A = ℕ} 0 1 = cc in absurd (omega arith)
+bind_ok (Err x) f b e = cc
 
 ok_or_ok : {A E : Type 0} (o : Option A) (e : E) (a : A) → ok_or o e ≡ Ok a → o ≡ Some a
-ok_or_ok None e a h = let z : ◌≡◌ {A = ℕ} 0 1 = cc in absurd (omega arith)
+ok_or_ok None e a h = cc
 ok_or_ok (Some x) e a h = cc
 
 raised_ok : {A E F : Type 0} (f : E → F) (r : Result A E) (a : A) → raised f r ≡ Ok a → r ≡ Ok a
 raised_ok f (Ok x) a h = cc
-raised_ok f (Err x) a h = let z : ◌≡◌ {A = ℕ} 0 1 = cc in absurd (omega arith)
+raised_ok f (Err x) a h = cc
 
 abbrev pub free : ℕ → List ℕ → Bool
 free b [] = true
@@ -63,13 +63,13 @@ some_pair : {A B : Type 0} (a c : A) (b d : B) → ◌≡◌ {A = Option (A × B
 some_pair {A} {B} a c b d h = let e = some_is {A = A × B} (a, b) (c, d) h in (ap (λ (p : A × B). p.0) e, ap (λ (p : A × B). p.1) e)
 
 mapped_is : (b c : ℕ) (cs xs ys : List ℕ) (o : Option (List ℕ × List ℕ)) → ((us vs : List ℕ) → o ≡ Some (us, vs) → cs ≡ us ++ b ∷ vs) → option_map {U = List ℕ × List ℕ} (λ (q : List ℕ × List ℕ). (c ∷ q.0, q.1)) o ≡ Some (xs, ys) → c ∷ cs ≡ xs ++ b ∷ ys
-mapped_is b c cs xs ys None i k = let z : ◌≡◌ {A = ℕ} 0 1 = cc in absurd (omega arith)
+mapped_is b c cs xs ys None i k = cc
 mapped_is b c cs xs ys (Some q) i k =
     let e = some_pair (c ∷ q.0) xs q.1 ys k in
     ap (λ zs. c ∷ zs) (i q.0 q.1 refl) ∙ (λ j. e.0 j ++ b ∷ e.1 j)
 
 pub cut_is : (b : ℕ) (t xs ys : List ℕ) → cut_at b t ≡ Some (xs, ys) → t ≡ xs ++ b ∷ ys
-cut_is b [] xs ys h = let z : ◌≡◌ {A = ℕ} 0 1 = cc in absurd (omega arith)
+cut_is b [] xs ys h = cc
 cut_is b (c ∷ cs) xs ys h =
     ⊎_elim
     (λ t. let k = some_pair [] xs cs ys (sym (cond-true _ _ _ t) ∙ h) in (λ i. eqb-true c b t i ∷ k.1 i) ∙ ap (λ zs. zs ++ b ∷ ys) k.0)
@@ -135,7 +135,7 @@ line_forth key l t n rest h =
     let tail : p.1 ≡ rest = z.1 in
     let ds : q.1 ≡ decimal n = sym w.0 ∙ ap decimal same in
     (e1 ∙ (λ i. e2 i ++ 10 ∷ tail i) ∙ (λ i. (k i ++ 61 ∷ ds i) ++ 10 ∷ rest) ∙ simp append_assoc, omega (arith, same, w.1)))
-    (λ s. let z = sym (cond-false _ _ _ s) ∙ b.2 in let y : ◌≡◌ {A = ℕ} 0 1 = cc in absurd (omega arith))
+    (λ s. let z = sym (cond-false _ _ _ s) ∙ b.2 in cc)
     (cases_Bool (bytes_eq q.0 (name_of key)))
 
 -- what is written is read back, and what is read is good and was written so
@@ -150,11 +150,11 @@ ok_triple {A} {B} {C} a d b e c f h =
 
 judged_back : (o : Option (ℕ → Fault)) (l n : ℕ) (rest : List ℕ) → passes o ≡ true → judged o l n rest ≡ Ok (n, (l + 1, rest))
 judged_back None l n rest h = refl
-judged_back (Some f) l n rest h = let z : ◌≡◌ {A = ℕ} 0 1 = cc in absurd (omega arith)
+judged_back (Some f) l n rest h = cc
 
 judged_forth : (o : Option (ℕ → Fault)) (l n : ℕ) (rest : List ℕ) (a m : ℕ) (r : List ℕ) → judged o l n rest ≡ Ok (a, (m, r)) → (passes o ≡ true) × (n ≡ a) × (rest ≡ r)
 judged_forth None l n rest a m r h = let e = ok_triple n a (l + 1) m rest r h in (refl, e.0, e.2)
-judged_forth (Some f) l n rest a m r h = let z : ◌≡◌ {A = ℕ} 0 1 = cc in absurd (omega arith)
+judged_forth (Some f) l n rest a m r h = cc
 
 pub field_laws : (key : Key) (test : Test) → Lawful (field key test)
 field_laws key test = record {
@@ -210,8 +210,8 @@ seen_laws c to from k same again = record {
 module _ {S A : Type 0} (c : S → Codec A) (next : S → A → S) (k : (s : S) → Lawful (c s)) where
   all_back : (s : S) (n : ℕ) (xs : List A) (l : ℕ) (rest : List ℕ) → good_all c next s n xs ≡ true → (m : ℕ) × (read_all c next s n l (write_all c next s xs ++ rest) ≡ Ok (xs, (m, rest)))
   all_back s zero [] l rest h = (l, refl)
-  all_back s zero (x ∷ xs) l rest h = let z : ◌≡◌ {A = ℕ} 0 1 = cc in absurd (omega arith)
-  all_back s (suc n) [] l rest h = let z : ◌≡◌ {A = ℕ} 0 1 = cc in absurd (omega arith)
+  all_back s zero (x ∷ xs) l rest h = cc
+  all_back s (suc n) [] l rest h = cc
   all_back s (suc n) (x ∷ xs) l rest h =
       let g = and_parts ((c s).good x) _ h in
       let v = (k s).back x l (write_all c next (next s x) xs ++ rest) g.0 in
@@ -244,19 +244,11 @@ module _ {S A : Type 0} (c : S → Codec A) (next : S → A → S) (k : (s : S) 
   -- what is good has its count
   pub many_length : (s : S) (n : ℕ) (xs : List A) → good_all c next s n xs ≡ true → n ≡ length xs
   many_length s zero [] h = refl
-  many_length s zero (x ∷ xs) h = let z : ◌≡◌ {A = ℕ} 0 1 = cc in absurd (omega arith)
-  many_length s (suc n) [] h = let z : ◌≡◌ {A = ℕ} 0 1 = cc in absurd (omega arith)
+  many_length s zero (x ∷ xs) h = cc
+  many_length s (suc n) [] h = cc
   many_length s (suc n) (x ∷ xs) h = ap suc (many_length (next s x) n xs (and_parts ((c s).good x) _ h).1)
 
 pub counted_laws : {A : Type 0} (c : Codec ℕ) (d : ℕ → Codec (List A)) → Lawful c → ((n : ℕ) → Lawful (d n)) → ((n : ℕ) (xs : List A) → (d n).good xs ≡ true → n ≡ length xs) → Lawful (counted c d)
 counted_laws {A} c d k m long =
     seen_laws (both c d) (λ p. p.1) (λ xs. (length xs, xs)) (both_laws c d k m) (λ _. refl)
     (λ p h. let w = long p.0 p.1 (and_parts (c.good p.0) _ h).1 in ap {B = ℕ × List A} (λ n. (n, p.1)) (sym w))
-
--- how a reading goes on, for code that reads part by part
-pub both_ok : {A B : Type 0} (c : Codec A) (d : A → Codec B) (l : ℕ) (t : List ℕ) (a : A) (m : ℕ) (u : List ℕ) (b : B) (n : ℕ) (v : List ℕ) → c.read l t ≡ Ok (a, (m, u)) → (d a).read m u ≡ Ok (b, (n, v)) → (both c d).read l t ≡ Ok ((a, b), (n, v))
-both_ok c d l t a m u b n v h k =
-    ap (λ r. bind r (λ x. bind ((d x.0).read x.1.0 x.1.1) (λ y. Ok ((x.0, y.0), y.1)))) h ∙ ap (λ r. bind r (λ y. Ok ((a, y.0), y.1))) k
-
-pub seen_ok : {A B : Type 0} (c : Codec A) (to : A → B) (from : B → A) (l : ℕ) (t : List ℕ) (a : A) (m : ℕ) (u : List ℕ) → c.read l t ≡ Ok (a, (m, u)) → (seen c to from).read l t ≡ Ok (to a, (m, u))
-seen_ok c to from l t a m u h = ap (λ r. bind r (λ x. Ok (to x.0, x.1))) h

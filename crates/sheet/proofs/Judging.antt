@@ -1,5 +1,5 @@
 -- A line whose number passes a range first, and then a test of its own.
-use Rattle.std.proofs.Common.{◌≡◌, ℕ, Bool, true, false, cond, ◌&&◌, leb, List, Some, None, Ok, Err, Option, Result, IsErrAnd, arith}
+use Rattle.std.proofs.Common.{◌≡◌, ℕ, Bool, true, false, cond, ◌&&◌, leb, List, Some, None, Ok, Err, Option, Result, IsErrAnd}
 use Rattle.sheet.specs.declared.faults.Fault.{Fault}
 use Rattle.sheet.specs.declared.faults.Fault.TheVariants.{Line, Range}
 use Rattle.sheet.specs.declared.faults.LineFault.{LineFault}
@@ -11,7 +11,7 @@ use Rattle.sheet.specs.Format.{within, under}
 use Rattle.sheet.proofs.Loops.{reads_err}
 
 refused : (b : Bool) (o : Option (ℕ → Fault)) (g : ℕ → Fault) (l n : ℕ) (t : List ℕ) (e : Fault) → judged (cond b None (Some g)) l n t ≡ Err e → judged (cond b o (Some g)) l n t ≡ Err e
-refused true o g l n t e h = let z : ◌≡◌ {A = ℕ} 0 1 = cc in absurd (omega arith)
+refused true o g l n t e h = cc
 refused false o g l n t e h = h
 
 module _ (key : Key) (low high : ℕ) (bad : ℕ → Bool) (f : ℕ → Fault) (l : ℕ) (e : Fault) where

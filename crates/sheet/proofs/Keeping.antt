@@ -31,8 +31,8 @@ module _ (key : Key) (low high : ℕ) (bad : ℕ → Bool) (f : ℕ → Fault) (
       (λ t.
       let p = and_parts _ _ t in
       let k = sym (ap passes (cond-true _ _ _ t)) ∙ h in
-      (leb-true low n p.0, leb-true n high p.1, ⊎_elim (λ b. let z = sym (ap passes (cond-true _ _ _ b)) ∙ k in let y : ◌≡◌ {A = ℕ} 0 1 = cc in absurd (omega arith)) (λ b. b) (cases_Bool (bad n))))
-      (λ t. let z = sym (ap passes (cond-false _ _ _ t)) ∙ h in let y : ◌≡◌ {A = ℕ} 0 1 = cc in absurd (omega arith))
+      (leb-true low n p.0, leb-true n high p.1, ⊎_elim (λ b. let z = sym (ap passes (cond-true _ _ _ b)) ∙ k in cc) (λ b. b) (cases_Bool (bad n))))
+      (λ t. let z = sym (ap passes (cond-false _ _ _ t)) ∙ h in cc)
       (cases_Bool (leb low n && leb n high))
 
   under_from : low ≤ n → n ≤ high → bad n ≡ false → passes (under key low high bad f n) ≡ true
@@ -71,7 +71,7 @@ set_from s k =
 
 sets_to : (n : ℕ) (ss : List SetLines) → good_all (λ (_ : Unit {0}). set_c) (λ u _. u) tt n ss ≡ true → SetsKeep ss
 sets_to n [] h = tt
-sets_to zero (s ∷ ss) h = let z : ◌≡◌ {A = ℕ} 0 1 = cc in absurd (omega arith)
+sets_to zero (s ∷ ss) h = cc
 sets_to (suc n) (s ∷ ss) h = let p = and_parts (set_c.good s) _ h in (set_to s p.0, sets_to n ss p.1)
 
 sets_from : (ss : List SetLines) → SetsKeep ss → good_all (λ (_ : Unit {0}). set_c) (λ u _. u) tt (length ss) ss ≡ true
@@ -143,7 +143,7 @@ slave_from own last sofar s p =
 
 slaves_to : (own last sofar n : ℕ) (ss : List SlaveLines) → good_all slave_c after (own, (last, sofar)) n ss ≡ true → sofar ≤ 256 → SlavesKeep own last ss × (sofar + total ss ≤ 256)
 slaves_to own last sofar n [] h k = (tt, omega arith)
-slaves_to own last sofar zero (s ∷ ss) h k = let z : ◌≡◌ {A = ℕ} 0 1 = cc in absurd (omega arith)
+slaves_to own last sofar zero (s ∷ ss) h k = cc
 slaves_to own last sofar (suc n) (s ∷ ss) h k =
     let g = and_parts ((slave_c (own, (last, sofar))).good s) _ h in
     let p = slave_to own last sofar s g.0 in

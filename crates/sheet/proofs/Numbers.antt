@@ -18,7 +18,7 @@ plain_from (c ∷ []) h z = refl
 plain_from (c ∷ d ∷ cs) h z = not_from_false _ (ne_eqb c 48 (λ e. let k = z e in omega arith))
 
 plain_to : (ds : List ℕ) → plain ds ≡ true → (0 < length ds) × (get_or ds 0 0 ≡ 48 → length ds ≡ 1)
-plain_to [] e = let z : ◌≡◌ {A = ℕ} 0 1 = cc in absurd (omega arith)
+plain_to [] e = cc
 plain_to (c ∷ []) e = (omega arith, λ _. refl)
 plain_to (c ∷ d ∷ cs) e = (omega arith, λ z. absurd (eqb-false c 48 (not-true _ e) z))
 
@@ -49,7 +49,7 @@ writes_back l bs n e =
     let w = plain_to bs qs.0 in
     let k : value_on 0 bs ≡ n = let z = sym (cond-true _ _ _ t) ∙ e in cc in
     (ap decimal (sym k) ∙ decimal-digits_value own bs ps.0 w.0 w.1 (omega arith), omega (arith, k)))
-    (λ f. let z = sym (cond-false _ _ _ f) ∙ e in let y : ◌≡◌ {A = ℕ} 0 1 = cc in absurd (omega arith))
+    (λ f. let z = sym (cond-false _ _ _ f) ∙ e in cc)
     (cases_Bool (numeral bs))
 
 pub value_push : (n : ℕ) (xs : List ℕ) (c : ℕ) → value_on n (xs ++ c ∷ []) ≡ value_on n xs * 10 + (c - 48)

@@ -1,13 +1,12 @@
 -- The two laws of the sheet's text.
-use Rattle.std.proofs.Common.{◌≡◌, ℕ, ◌≤◌, Bool, true, false, cond, ◌&&◌, eqb, ltb, leb, List, [], ◌∷◌, ◌++◌, length, Ok, sym, refl, ap, ◌∙◌, ⊎_elim, append-nil, arith}
+use Rattle.std.proofs.Common.{◌≡◌, ℕ, ◌≤◌, Bool, true, false, cond, ◌&&◌, eqb, ltb, leb, List, [], ◌∷◌, ◌++◌, Ok, sym, refl, ap, ◌∙◌, ⊎_elim, append-nil, arith}
 use Rattle.std.proofs.lemmas.Bool.{and_parts, leb-true, cases_Bool, cond-false}
 use Rattle.std.proofs.lemmas.Bool.Decides.{nat_tests}
 use Rattle.sheet.specs.declared.keys.Key.{Key}
-use Rattle.sheet.specs.declared.keys.Key.TheVariants.{Slaves}
 use Rattle.sheet.specs.Lines.{bind}
-use Rattle.sheet.specs.Codec.{passes, read_field, both, many, read_all}
-use Rattle.sheet.specs.Format.{SlaveLines, HeaderLines, SheetLines, within, ranged, set_c, flag, Before, slave_c, after, header_c, count_c, slaves_c, to_sheet, of_sheet, sheet_c, text, good, ended, reading}
-use Rattle.sheet.proofs.Codecs.{Lawful, ok_is, field_laws, both_laws, seen_laws, many_laws, many_length, counted_laws, both_ok, seen_ok, bind_ok}
+use Rattle.sheet.specs.Codec.{passes}
+use Rattle.sheet.specs.Format.{SheetLines, within, ranged, set_c, flag, Before, slave_c, after, header_c, sheet_c, text, good, ended, reading}
+use Rattle.sheet.proofs.Codecs.{Lawful, ok_is, field_laws, both_laws, seen_laws, many_laws, many_length, counted_laws, bind_ok}
 
 set_laws : Lawful set_c
 set_laws =
@@ -19,7 +18,7 @@ pub within_is : (key : Key) (low high n : ℕ) → passes (within key low high n
 within_is key low high n h =
     ⊎_elim
     (λ t. let p = and_parts _ _ t in (leb-true low n p.0, leb-true n high p.1))
-    (λ f. let e : passes (within key low high n) ≡ false = ap passes (cond-false _ _ _ f) in let k = sym h ∙ e in let z : ◌≡◌ {A = ℕ} 0 1 = cc in absurd (omega arith))
+    (λ f. let e : passes (within key low high n) ≡ false = ap passes (cond-false _ _ _ f) in let k = sym h ∙ e in cc)
     (cases_Bool (leb low n && leb n high))
 
 bit_back : (key : Key) (n : ℕ) → passes (within key 0 1 n) ≡ true → cond (eqb n 1) 1 0 ≡ n
@@ -74,7 +73,7 @@ reads_text s h =
 
 ended_is : (l : ℕ) (bs : List ℕ) (s u : SheetLines) → ended l bs s ≡ Ok u → (bs ≡ []) × (s ≡ u)
 ended_is l [] s u h = (refl, ok_is s u h)
-ended_is l (b ∷ bs) s u h = let z : ◌≡◌ {A = ℕ} 0 1 = cc in absurd (omega arith)
+ended_is l (b ∷ bs) s u h = cc
 
 -- what is read is a good sheet, and the text is its text
 pub writes_reading : (t : List ℕ) (s : SheetLines) → reading t ≡ Ok s → (text s ≡ t) × (good s ≡ true)
@@ -84,13 +83,3 @@ writes_reading t s h =
     let e = ended_is x.1.0 x.1.1 x.0 s a.2 in
     let v = sheet_laws.forth 1 t x.0 x.1.0 x.1.1 a.1 in
     (sym (v.0 ∙ (λ i. text (e.1 i) ++ e.0 i) ∙ append-nil (text s)), ap good (sym e.1) ∙ v.1)
-
-pub whole_ok : (t : List ℕ) (h : HeaderLines) (l1 : ℕ) (t1 : List ℕ) (n l2 : ℕ) (t2 : List ℕ) (ss : List SlaveLines) (l3 : ℕ) (t3 : List ℕ)
-    → header_c.read 1 t ≡ Ok (h, (l1, t1)) → read_field Slaves (within Slaves 0 126) l1 t1 ≡ Ok (n, (l2, t2)) → read_all slave_c after (h.own, (0, 0)) n l2 t2 ≡ Ok (ss, (l3, t3)) → t3 ≡ []
-    → reading t ≡ Ok (record { own = h.own; wait = h.wait; boottime = h.boottime; inhibit = h.inhibit; startall = h.startall; resetall = h.resetall; stopall = h.stopall; slaves = ss })
-whole_ok t h l1 t1 n l2 t2 ss l3 t3 a b c e =
-    let all = both_ok count_c (many slave_c after (h.own, (0, 0))) l1 t1 n l2 t2 ss l3 t3 b c in
-    let list = seen_ok (both count_c (many slave_c after (h.own, (0, 0)))) (λ p. p.1) (λ xs. (length xs, xs)) l1 t1 (n, ss) l3 t3 all in
-    let pair = both_ok header_c slaves_c 1 t h l1 t1 ss l3 t3 a list in
-    ap (λ r. bind r (λ x. ended x.1.0 x.1.1 x.0)) (seen_ok (both header_c slaves_c) to_sheet of_sheet 1 t (h, ss) l3 t3 pair)
-    ∙ ap (λ z. ended l3 z (to_sheet (h, ss))) e

@@ -1,11 +1,14 @@
 -- The refusal number, the line and the layer of a fault, by variant.
-use Rattle.std.specs.Prelude.{ℕ}
+use Rattle.std.specs.Prelude.{ℕ, List, ◌++◌, codes}
+use Rattle.sheet.specs.declared.faults.DigitsFault.{DigitsFault}
+use Rattle.sheet.specs.declared.faults.LineFault.{LineFault}
 use Rattle.sheet.specs.declared.faults.LineFault.TheVariants.{Digits, Shape}
 use Rattle.sheet.specs.declared.faults.Fault.{Fault}
 use Rattle.sheet.specs.declared.faults.Fault.TheVariants.{Line, Range, Order, Silent, TooManySets, After}
 use Rattle.sheet.specs.declared.faults.Layer.{Layer}
 use Rattle.sheet.specs.declared.faults.Layer.TheVariants.{Digits as DigitsLayer, Line as LineLayer, Sheet as SheetLayer}
 use Rattle.sheet.specs.declared.faults.TooShort.{TooShort}
+use Rattle.sheet.specs.Keys.{name_of}
 
 -- 1 no number, 2 no line of the key that is due, 3 outside its range, 4 node own or not above the last,
 -- 5 keep-alive without heartbeat, 6 more than 256 sets so far, 7 bytes after the last line
@@ -41,3 +44,12 @@ layer_of (After l) = SheetLayer
 -- 8: the output is shorter than the text
 abbrev pub short_refusal : TooShort → ℕ
 short_refusal s = 8
+
+-- what is printed of a value that is no number
+abbrev pub digits_sentence : DigitsFault → List ℕ
+digits_sentence d = codes "the value must be a decimal number up to 4294967295 without leading zeros"
+
+-- what is printed of a line that is none, or not the one that is due
+abbrev pub line_sentence : LineFault → List ℕ
+line_sentence (Digits d) = digits_sentence d
+line_sentence (Shape l k) = codes "'" ++ (name_of k ++ codes "=' with a number and a line end is due here")

@@ -20,6 +20,7 @@ slave_of s = record { node = s.node; mandatory = s.mandatory; keep = s.keep; kin
 abbrev pub slaves_of : Vec Slave Global → List SlaveLines
 slaves_of v = map slave_of (vec_items v)
 
+-- field by field, since a sheet's own ghost field cites it, and has no sheet to name
 abbrev pub lines_from : ℕ → ℕ → ℕ → ℕ → Bool → Bool → Bool → Vec Slave Global → SheetLines
 lines_from own wait boottime inhibit startall resetall stopall slaves = record { own = own; wait = wait; boottime = boottime; inhibit = inhibit; startall = startall; resetall = resetall; stopall = stopall; slaves = slaves_of slaves }
 

@@ -1,8 +1,8 @@
 // What a reading is refused for, by layer: digits, line, sheet. A fault keeps its line, from 1.
-ghost use Rattle.std.specs.Prelude.{◌≡◌};
+ghost use Rattle.std.specs.Prelude.{◌≡◌, Some};
 ghost use Rattle.sheet.specs.declared.faults.Fault.TheVariants.{Line};
 ghost use Rattle.sheet.specs.declared.faults.LineFault.TheVariants.{Digits};
-ghost use Rattle.sheet.specs.Faults.{refusal_of, line_number_of, layer_of, short_refusal};
+ghost use Rattle.sheet.specs.Faults.{refusal_of, line_number_of, layer_of, short_refusal, digits_sentence, line_sentence};
 
 use crate::keys::Key;
 use std::error::Error;
@@ -135,21 +135,25 @@ impl TooShort {
 
 impl fmt::Display for Layer {
     fn fmt<W: fmt::Write>(&self, f: &mut fmt::Formatter<W>) -> fmt::Result {
-        match self {
-            Layer::Digits => f.write_str("digits"),
-            Layer::Line => f.write_str("line"),
-            Layer::Sheet => f.write_str("sheet"),
-        }
+        f.write_str(match self {
+            Layer::Digits => "digits",
+            Layer::Line => "line",
+            Layer::Sheet => "sheet",
+        })
     }
 }
 
 impl fmt::Display for DigitsFault {
+    ghost output = { λ d. Some (digits_sentence d) };
+
     fn fmt<W: fmt::Write>(&self, f: &mut fmt::Formatter<W>) -> fmt::Result {
         f.write_str("the value must be a decimal number up to 4294967295 without leading zeros")
     }
 }
 
 impl fmt::Display for LineFault {
+    ghost output = { λ d. Some (line_sentence d) };
+
     fn fmt<W: fmt::Write>(&self, f: &mut fmt::Formatter<W>) -> fmt::Result {
         match self {
             LineFault::Digits(fault) => write!(f, "{fault}"),

@@ -13,6 +13,7 @@ pub struct Few<T, const N: usize> {
 
 impl<T: Copy, const N: usize> Copy for Few<T, N> {}
 
+// By hand: a derive refuses a generic struct with a ghost field.
 impl<T: Copy, const N: usize> Clone for Few<T, N> {
     ghost is_clone = { λ x y. y ≡ x };
 

@@ -18,7 +18,7 @@ use crate::model::sheet::Sheet;
 use crate::model::slave::Slave;
 use std::alloc::{AllocError, Global};
 
-// The lines before the slaves. A sheet takes them when all of its lines are read.
+// The lines before the slaves. A sheet has the same fields, and takes these when all of its lines are read.
 #[derive(Clone, Copy)]
 struct Header {
     own: u8,

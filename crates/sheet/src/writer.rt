@@ -27,6 +27,7 @@ impl<'a> Writer<'a> {
         requires { self.old.len + length bytes.now < 2 ^ 40 }
         ensures { Adds self.old bytes.now self.new }
     {
+        // By index: of what is written through `iter_mut` or `get_mut`, a proof knows the length alone.
         for b in bytes {
             if self.len < self.out.len() {
                 self.out[self.len] = *b;

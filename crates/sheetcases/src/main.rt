@@ -10,25 +10,15 @@ use std::io::{BufWriter, Write};
 const LONGEST: usize = 40000;
 
 fn count_sets(sheet: &Sheet) -> usize {
-    let mut sets: usize = 0;
-    for slave in sheet.slaves.as_slice() {
-        sets = sets.saturating_add(slave.sets.as_slice().len());
-    }
-    sets
+    sheet.slaves.iter().fold(0usize, |sets, slave| {
+        sets.saturating_add(slave.sets.as_slice().len())
+    })
 }
 
-// How many bytes of `text` come back when the sheet is written: all of them, if it was read right.
-fn rewritten(sheet: &Sheet, text: &[u8], out: &mut [u8]) -> usize {
-    match sheet.write(out) {
-        Ok(n) => {
-            if n <= out.len() && &out[0..n] == text {
-                n
-            } else {
-                0
-            }
-        }
-        Err(_) => 0,
-    }
+// The length of the text that the sheet writes; none, unless it is the text that was read.
+fn rewritten(sheet: &Sheet, text: &[u8], out: &mut [u8]) -> Option<usize> {
+    let n = sheet.write(out).ok()?;
+    (out.get(..n)? == text).then_some(n)
 }
 
 fn run_case<W: Write>(
@@ -44,7 +34,7 @@ fn run_case<W: Write>(
         Ok(()) => {
             let slaves = sheet.slaves.len();
             let sets = count_sets(sheet);
-            let n = rewritten(sheet, text.as_slice(), room);
+            let n = rewritten(sheet, text.as_slice(), room).unwrap_or(0);
             writeln!(
                 out,
                 "{name:<26} right slaves={slaves} sets={sets} rewritten={n}"

@@ -7,6 +7,7 @@ use std::{env, fs};
 
 const DEFAULT_PATH: &str = "sheet.txt";
 
+// A function: a type of its own with a `Display` would say the same in more lines.
 fn yes_no(b: bool) -> &'static str {
     if b { "yes" } else { "no" }
 }
@@ -30,7 +31,6 @@ fn print_slave<W: Write>(out: &mut W, slave: &Slave) -> anyhow::Result<()> {
 }
 
 fn print_facts<W: Write>(out: &mut W, sheet: &Sheet) -> anyhow::Result<()> {
-    let count = sheet.slaves.len();
     writeln!(out, "own       {}", sheet.own)?;
     writeln!(out, "wait      {}", sheet.wait)?;
     writeln!(out, "boottime  {}", sheet.boottime)?;
@@ -38,11 +38,11 @@ fn print_facts<W: Write>(out: &mut W, sheet: &Sheet) -> anyhow::Result<()> {
     writeln!(out, "startall  {}", yes_no(sheet.startall))?;
     writeln!(out, "resetall  {}", yes_no(sheet.resetall))?;
     writeln!(out, "stopall   {}", yes_no(sheet.stopall))?;
-    writeln!(out, "slaves    {count}")?;
-    if count > 0 {
+    writeln!(out, "slaves    {}", sheet.slaves.len())?;
+    if !sheet.slaves.is_empty() {
         writeln!(out, "  node  needed     keep-alive  heartbeat  sets")?;
     }
-    for slave in sheet.slaves.as_slice() {
+    for slave in &sheet.slaves {
         print_slave(out, slave)?;
     }
     Ok(())
@@ -60,24 +60,16 @@ fn print_fault<W: Write>(out: &mut W, fault: &Fault) -> anyhow::Result<()> {
     Ok(())
 }
 
-// The path given as an argument, or sheet.txt in this folder.
+// The file at the path given as an argument, or sheet.txt in this folder. The programs above have one of their own:
+// the one crate below them all, sheet, has no IO.
 fn read_file(rt: &HostRuntime) -> anyhow::Result<Vec<u8>> {
-    let mut args = env::args(rt)?;
-    let _program = args.next();
-    match args.next() {
-        Some(path) => read_path(rt, path.as_str()),
-        None => read_path(rt, DEFAULT_PATH),
+    let path = env::args(rt)?.nth(1);
+    let path = path.as_deref().unwrap_or(DEFAULT_PATH);
+    let text = fs::read(rt, path);
+    if let Err(error) = &text {
+        eprintln!(rt; "sheetcheck: cannot read {path}: {error}")?;
     }
-}
-
-fn read_path(rt: &HostRuntime, path: &str) -> anyhow::Result<Vec<u8>> {
-    match fs::read(rt, path) {
-        Ok(bytes) => Ok(bytes),
-        Err(error) => {
-            eprintln!(rt; "sheetcheck: cannot read {path}: {error}")?;
-            Err(error.into())
-        }
-    }
+    Ok(text?)
 }
 
 fn main(rt: HostRuntime) -> anyhow::Result<()> {
