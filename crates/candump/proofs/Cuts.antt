@@ -3,7 +3,8 @@ use Rattle.std.proofs.Common.{◌≡◌, ℕ, true, cond, List, [], ◌∷◌, l
 use Rattle.std.specs.Cmp.Lexicographic.{pointwise}
 use Rattle.std.proofs.lemmas.Grind.{common_steps}
 use Rattle.sheet.specs.Lines.{cut_at}
-use Rattle.candump.specs.Logs.{Split, and_then, after_first, words_in}
+use Rattle.candump.specs.Logs.{Split, after_first, words_in}
+use Rattle.script.specs.Sessions.{and_then}
 
 -- what stands after a first byte
 pub after_found : (b : ℕ) (s r : List ℕ) → pointwise eqb (take 1 s) (b ∷ []) ≡ true → r ≡ drop 1 s → Some r ≡ after_first b s

@@ -2,7 +2,8 @@
 use Rattle.std.proofs.Common.{◌≡◌, ℕ, ◌+◌, ◌-◌, ◌*◌, ◌<◌, ◌≤◌, List, [], ◌∷◌, ◌++◌, length, get_or, take, drop, Some, None, Option, sym, refl, ap, ◌∙◌, append_assoc, arith, length-append, length-drop, length-take}
 use Rattle.std.specs.Option.{option_map}
 use Rattle.std.proofs.lemmas.List.{take_rest, take_all}
-use Rattle.candump.specs.Logs.{and_then, number_in, pairs_in}
+use Rattle.candump.specs.Logs.{number_in, pairs_in}
+use Rattle.script.specs.Sessions.{and_then}
 
 -- the bytes so far, and behind them those that are still to be read
 abbrev pub onto : List ℕ → Option (List ℕ) → Option (List ℕ)

@@ -2,7 +2,7 @@
 use crate::report::Output;
 use frames::frame::Frame;
 use frames::nmt::NmtMessage;
-use master::{Letter, Refusal};
+use master::Letter;
 use std::fmt;
 
 // What a line means.
@@ -22,16 +22,17 @@ impl fmt::Display for Note<'_> {
         match self.0 {
             Output::Out(taken) => write_taken(f, taken),
             Output::BadSheet(fault) => write!(f, "{fault}"),
-            Output::Refused(refusal) => f.write_str(refusal_note(refusal)),
+            Output::Refused(refusal) => write!(f, "{refusal}"),
             Output::Go { go, slaves } => write_lamp(f, go, slaves),
             Output::Halted(true) => f.write_str(
                 "a needed slave failed or was lost: the master has stopped",
             ),
             Output::Halted(false) => f.write_str("the master is at work"),
-            Output::Slave { letter, .. } => f.write_str(letter.map_or(
-                "no result yet",
-                |letter| letter_note(letter),
-            )),
+            Output::Slave { letter: None, .. } => f.write_str("no result yet"),
+            Output::Slave {
+                letter: Some(letter),
+                ..
+            } => f.write_str(letter_note(letter)),
         }
     }
 }
@@ -72,8 +73,7 @@ impl Outcome {
     fn holds_lamp(self) -> bool {
         match self.letter {
             None => true,
-            Some(Letter::Ready) => false,
-            Some(Letter::FoundRunning) => false,
+            Some(Letter::Ready | Letter::FoundRunning) => false,
             Some(_) => self.mandatory,
         }
     }
@@ -115,16 +115,7 @@ fn write_lamp<W: fmt::Write>(
     write_waiting(f, "; optional slaves still being checked: ", slaves, false)
 }
 
-fn refusal_note(refusal: Refusal) -> &'static str {
-    match refusal {
-        Refusal::NoNode => "a node is from 1 to 127",
-        Refusal::NoFrame =>
-            "no frame: the identifier is above 2047, or there are more than 8 bytes",
-        Refusal::Halted => "the master is halted",
-        Refusal::NoRoom => "something is due, and the port is full",
-    }
-}
-
+// A function, since a type of its own would be printed in this one place only.
 fn letter_note(letter: Letter) -> &'static str {
     match letter {
         Letter::NotListed => "not on the sheet",

@@ -30,10 +30,11 @@ impl fmt::Display for Output<'_> {
             Output::Refused(refusal) => write!(f, "refused={}", refusal.number()),
             Output::Go { go, .. } => write!(f, "go={}", u8::from(go)),
             Output::Halted(halted) => write!(f, "halted={}", u8::from(halted)),
-            Output::Slave { node, letter } => {
-                let text = letter.map_or("none", |letter| letter.text());
-                write!(f, "slave={node},{text}")
-            }
+            Output::Slave { node, letter: None } => write!(f, "slave={node},none"),
+            Output::Slave {
+                node,
+                letter: Some(letter),
+            } => write!(f, "slave={node},{letter}"),
         }
     }
 }

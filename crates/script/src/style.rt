@@ -1,4 +1,6 @@
 // How a run prints its lines.
+ghost use Rattle.std.specs.Prelude.{◌≡◌, Some, codes};
+
 use std::error::Error;
 use std::fmt;
 use std::str::FromStr;
@@ -18,7 +20,6 @@ impl FromStr for Style {
     type Err = UnknownStyle;
 
     ghost use Rattle.script.specs.Styles.{style_in};
-    ghost use Rattle.std.specs.Prelude.{◌≡◌};
 
     ghost from_str_gives = { λ word r. r ≡ style_in word };
 
@@ -32,6 +33,8 @@ impl FromStr for Style {
 }
 
 impl fmt::Display for UnknownStyle {
+    ghost output = { λ _. Some (codes "a style is plain or explained") };
+
     fn fmt<W: fmt::Write>(&self, f: &mut fmt::Formatter<W>) -> fmt::Result {
         f.write_str("a style is plain or explained")
     }
