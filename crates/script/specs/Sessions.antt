@@ -1,6 +1,6 @@
 -- What the text of a session says.
 use Rattle.std.specs.Prelude.{ℕ, cond, List, [], ◌∷◌, take, Some, None, codes, Option, ◌==◌, nat_lt}
-use Rattle.std.specs.List.{slice_split}
+use Rattle.std.specs.List.{onto_first, slice_split}
 use Rattle.std.specs.Option.{option_map, unwrap_or}
 use Rattle.std.specs.Str.{bytes_eq}
 use Rattle.sheet.specs.Decimal.{numeral, value_on}
@@ -69,12 +69,7 @@ line_in t = and_then (cut_at 61 t) (λ p. and_then (key_in p.0) (λ k. under_key
 abbrev pub first_line : List ℕ → List ℕ × List ℕ
 first_line t = unwrap_or (cut_at 10 t) (t, [])
 
--- put in front of the first line, which may have to be begun
-abbrev pub on_line : ℕ → List (List ℕ) → List (List ℕ)
-on_line c [] = (c ∷ []) ∷ []
-on_line c (l ∷ ls) = (c ∷ l) ∷ ls
-
 -- the lines of a text, one after the other
 abbrev pub lines : List ℕ → List (List ℕ)
 lines [] = []
-lines (c ∷ cs) = cond (c == 10) ([] ∷ lines cs) (on_line c (lines cs))
+lines (c ∷ cs) = cond (c == 10) ([] ∷ lines cs) (onto_first c (lines cs))
