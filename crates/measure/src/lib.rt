@@ -70,7 +70,7 @@ pub extern "C" fn measure_readings(heap: Global, text: &[u8], count: u32) -> u32
 
 fn copy_front(from: &[u8], to: &mut [u8]) {
     let n = from.len().min(to.len());
-    to[0..n].copy_from_slice(&from[0..n]);
+    to[..n].copy_from_slice(&from[..n]);
 }
 
 // The length of what a session prints, of which as much is written as `out` has room for.
