@@ -4,9 +4,6 @@ use Rattle.std.proofs.Common.{lit≤}
 use Rattle.std.specs.Option.{option_to_list}
 use Rattle.frames.specs.declared.frame.Frame.{Frame}
 
-pub one_is_enough : 1 ≤ 1
-one_is_enough = lit≤ tt
-
 pub one_at_most : (o : Option Frame) → length (option_to_list o) ≤ 1
 one_at_most None = lit≤ tt
 one_at_most (Some f) = lit≤ tt

@@ -2,10 +2,9 @@
 use frames::frame::Frame;
 use frames::nmt::{Command, NmtMessage};
 
-// What the device says next, as identifier and bytes.
+// What the device can say, in bytes: a driver hands these on, and what they mean is the master's to read.
 #[derive(Clone, Copy)]
 pub enum Received {
-    Nothing,
     // on 705h: 00h is a boot-up, the rest are states
     State(u8),
     // on 585h: the answer to the read of 1000h:00
@@ -14,7 +13,7 @@ pub enum Received {
 
 #[derive(Clone, Copy, Drop)]
 pub struct Bus {
-    next: Received,
+    next: Option<Received>,
     state: u8,
     since_heartbeat: u8,
 }
@@ -22,7 +21,7 @@ pub struct Bus {
 impl Bus {
     pub fn new() -> Bus {
         Bus {
-            next: Received::Nothing,
+            next: None,
             state: 0x7F,
             since_heartbeat: 0,
         }
@@ -39,26 +38,22 @@ impl Bus {
                 Command::Stop => self.state = 0x04,
                 _ => {
                     self.state = 0x7F;
-                    self.next = Received::State(0x00);
+                    self.next = Some(Received::State(0x00));
                 }
             }
         } else if frame.id() == 0x605 {
-            self.next = Received::DeviceType;
+            self.next = Some(Received::DeviceType);
         }
     }
 
     // What the driver received in this millisecond. The device sends a heartbeat every 21 of them.
-    pub fn receive(&mut self) -> Received {
-        let now = self.next;
-        self.next = Received::Nothing;
+    pub fn receive(&mut self) -> Option<Received> {
+        let now = self.next.take();
         if self.since_heartbeat < 20 {
             self.since_heartbeat += 1;
             return now;
         }
         self.since_heartbeat = 0;
-        match now {
-            Received::Nothing => Received::State(self.state),
-            _ => now,
-        }
+        now.or(Some(Received::State(self.state)))
     }
 }

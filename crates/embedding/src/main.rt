@@ -15,7 +15,6 @@ use transmit::TransmitBuffer;
 // Frames that the driver received go to the master as they are. It refuses what is no frame, and looks at the rest.
 fn hear<P: Port>(master: &mut Master<P>, received: Received) {
     let _ = match received {
-        Received::Nothing => return,
         Received::State(state) => master.heard(0x705, &[state]),
         Received::DeviceType => {
             master.heard(0x585, &[0x4B, 0x00, 0x10, 0x00, 0x92, 0x01, 0x00, 0x00])
@@ -28,13 +27,12 @@ fn hear<P: Port>(master: &mut Master<P>, received: Received) {
 fn work<P: Port>(master: &mut Master<P>, bus: &mut Bus) {
     for _ in 0..128 {
         let worked = master.work();
-        match master.take() {
-            Some(frame) => bus.send(&frame),
-            None => return,
-        }
-        match worked {
-            Ok(Worked::Put) => {}
-            _ => return,
+        let Some(frame) = master.take() else {
+            return;
+        };
+        bus.send(&frame);
+        if !matches!(worked, Ok(Worked::Put)) {
+            return;
         }
     }
 }
@@ -62,16 +60,17 @@ fn run<P: Port + Drop>(rt: &HostRuntime, sheet: Sheet, port: P) -> anyhow::Resul
     let inhibit = sheet.inhibit;
     let mut master = Master::new(sheet, GapPort::new(port, inhibit));
     let mut bus = Bus::new();
-    let mut green = false;
-    let mut red = false;
+    let mut shown = (false, false);
     show(rt, 0, &master)?;
     for ms in 1..100u32 {
-        hear(&mut master, bus.receive());
+        if let Some(received) = bus.receive() {
+            hear(&mut master, received);
+        }
         master.tick();
         work(&mut master, &mut bus);
-        if master.go() != green || master.halted() != red {
-            green = master.go();
-            red = master.halted();
+        let now = (master.go(), master.halted());
+        if now != shown {
+            shown = now;
             show(rt, ms, &master)?;
         }
     }

@@ -1,7 +1,8 @@
 // A CAN controller with one transmit buffer, as a port.
 ghost use Rattle.std.specs.Prelude.{◌≡◌, ◌≤◌, length, None};
 ghost use Rattle.std.specs.Option.{option_to_list};
-ghost use Rattle.embedding.specs.Buffers.{one_at_most, one_is_enough};
+ghost use Rattle.std.proofs.Common.{arith};
+ghost use Rattle.embedding.specs.Buffers.{one_at_most};
 
 use frames::frame::Frame;
 use ports::port::Port;
@@ -30,25 +31,18 @@ impl Port for TransmitBuffer {
 
     ghost pause = { λ _. 0 };
 
-    ghost least = { λ _. one_is_enough };
+    ghost least = { λ _. omega arith };
 
     ghost within = { λ p. one_at_most p.frame };
 
     fn room(&self) -> usize {
-        match self.frame {
-            Some(_) => 0,
-            None => 1,
-        }
+        usize::from(self.frame.is_none())
     }
 
     fn put(&mut self, frame: Frame) -> bool {
-        match self.frame {
-            Some(_) => false,
-            None => {
-                self.frame = Some(frame);
-                true
-            }
-        }
+        let free = self.frame.is_none();
+        self.frame.get_or_insert(frame);
+        free
     }
 
     fn first(&self) -> Option<Frame> {
@@ -56,9 +50,7 @@ impl Port for TransmitBuffer {
     }
 
     fn take(&mut self) -> Option<Frame> {
-        let first = self.frame;
-        self.frame = None;
-        first
+        self.frame.take()
     }
 
     fn tick(&mut self) {}

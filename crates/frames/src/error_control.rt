@@ -36,7 +36,7 @@ impl Sign {
     pub fn read(frame: &Frame, node: u8) -> Option<Sign>
         ensures { result ≡ sign_in (content_of frame.now) node }
     {
-        if frame.id() != 0x700 + node as u16 {
+        if frame.id() != 0x700 + u16::from(node) {
             return None;
         }
         let &[code] = frame.data() else {

@@ -83,14 +83,13 @@ impl Request {
     pub fn frame(&self) -> Frame
         ensures { content_of result ≡ request_content self.now }
     {
-        let (command, value) = match self.access {
+        let (command, [a, b, c, d]) = match self.access {
             Access::Read => (0x40, [0, 0, 0, 0]),
             Access::Write(size, value) => write_of(size, value),
         };
         let [low, high] = self.index.to_le_bytes();
-        let [a, b, c, d] = value;
         Frame {
-            id: 0x600 + self.node as u16,
+            id: 0x600 + u16::from(self.node),
             len: 8,
             bytes: [command, low, high, self.sub, a, b, c, d],
         }
@@ -100,7 +99,7 @@ impl Request {
     pub fn reply(&self, frame: &Frame) -> Option<Reply>
         ensures { result ≡ reply_in self.now (content_of frame.now) }
     {
-        if frame.id() != 0x580 + self.node as u16 {
+        if frame.id() != 0x580 + u16::from(self.node) {
             return None;
         }
         let &[command, low, high, sub, a, b, c, d] = frame.data() else {

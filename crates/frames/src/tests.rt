@@ -1,5 +1,6 @@
 use crate::frame::Frame;
 use crate::identified::Identified;
+use crate::nmt::{Command, NmtMessage};
 use crate::queue::Queue;
 use std::test::Fail;
 
@@ -29,5 +30,16 @@ fn frames_wait_in_order(rt: HostRuntime) -> Result<(), Fail> {
         through(&mut [sync; 2], sync, sign),
         Some((false, 0x80, 0x705))
     );
+    Ok(())
+}
+
+#[test]
+fn texts(rt: HostRuntime) -> Result<(), Fail> {
+    let stop = NmtMessage {
+        command: Command::Stop,
+        node: 5,
+    };
+    let text = format!(in rt.alloc(); "{} is {stop}", stop.frame())?;
+    assert_eq!(rt; text.as_str(), "0,2,5 is NMT stop to node 5");
     Ok(())
 }

@@ -4,7 +4,6 @@
 use frames::frame::Frame;
 use frames::nmt::{Command, NmtMessage};
 use frames::queue::Queue;
-use frames::refusal::Refusal;
 use frames::sdo::{Access, Request, Size};
 use ports::gap_port::GapPort;
 use ports::hand_over::hand_over;
@@ -47,20 +46,6 @@ fn fixed_row() -> [Frame; 5] {
     ]
 }
 
-fn print_frame(rt: &HostRuntime, tick: u8, frame: &Frame) -> io::Result<()> {
-    let id = frame.id();
-    print!(rt; "tick={tick} out={id}")?;
-    for byte in frame.data() {
-        print!(rt; ",{byte}")?;
-    }
-    println!(rt)
-}
-
-fn print_refusal(rt: &HostRuntime, refusal: Refusal) -> io::Result<()> {
-    let number = refusal.number();
-    println!(rt; "refused={number}")
-}
-
 // At each tick the row fills the port and the port empties to the bus, each until one side declines.
 fn bench<R: Port, P: Port + Drop, B: Port>(
     rt: &HostRuntime,
@@ -68,13 +53,11 @@ fn bench<R: Port, P: Port + Drop, B: Port>(
     mut port: P,
     bus: &mut B,
 ) -> io::Result<()> {
-    for tick in 0..6 {
+    for tick in 0..6u8 {
         hand_over(row, &mut port);
         hand_over(&mut port, bus);
-        for _ in 0..5 {
-            if let Some(frame) = bus.take() {
-                print_frame(rt, tick, &frame)?;
-            }
+        while let Some(frame) = bus.take() {
+            println!(rt; "tick={tick} out={frame}")?;
         }
         port.tick();
     }
@@ -86,44 +69,23 @@ fn run<P: Port + Drop>(rt: &HostRuntime, name: &str, port: P) -> io::Result<()> 
     let frames = fixed_row();
     let mut waiting = frames;
     let mut left = frames;
-    let mut row = match Queue::new(&mut waiting) {
-        Ok(row) => row,
-        Err(refusal) => return print_refusal(rt, refusal),
-    };
+    let mut row = Queue::new(&mut waiting).unwrap();
     for frame in frames {
         let _ = row.put(frame);
     }
-    match Queue::new(&mut left) {
-        Ok(mut bus) => bench(rt, &mut row, port, &mut bus),
-        Err(refusal) => print_refusal(rt, refusal),
-    }
-}
-
-fn run_gapped<P: Port + Drop>(
-    rt: &HostRuntime,
-    name: &str,
-    port: P,
-    inhibit: u16,
-) -> io::Result<()> {
-    run(rt, name, GapPort::new(port, inhibit))
+    let mut bus = Queue::new(&mut left).unwrap();
+    bench(rt, &mut row, port, &mut bus)
 }
 
 fn main(rt: HostRuntime) -> io::Result<()> {
-    let [blank, _, _, _, _] = fixed_row();
+    let blank = fixed_row()[0];
     let mut one = [blank; 1];
-    match Queue::new(&mut one) {
-        Ok(ring) => run(&rt, "ring of 1", ring)?,
-        Err(refusal) => print_refusal(&rt, refusal)?,
-    }
+    run(&rt, "ring of 1", Queue::new(&mut one).unwrap())?;
     let mut many = [blank; 64];
-    match Queue::new(&mut many) {
-        Ok(ring) => run(&rt, "ring of 64", ring)?,
-        Err(refusal) => print_refusal(&rt, refusal)?,
-    }
+    run(&rt, "ring of 64", Queue::new(&mut many).unwrap())?;
     run(&rt, "mailbox", Mailbox::new(blank))?;
-    match Queue::new(&mut many) {
-        Ok(ring) => run_gapped(&rt, "gap of 2 over ring of 64", ring, 11)?,
-        Err(refusal) => print_refusal(&rt, refusal)?,
-    }
-    run_gapped(&rt, "gap of 1 over mailbox", Mailbox::new(blank), 10)
+    let gapped = GapPort::new(Queue::new(&mut many).unwrap(), 11);
+    run(&rt, "gap of 2 over ring of 64", gapped)?;
+    let gapped = GapPort::new(Mailbox::new(blank), 10);
+    run(&rt, "gap of 1 over mailbox", gapped)
 }

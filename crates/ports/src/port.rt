@@ -6,6 +6,7 @@ ghost use Rattle.ports.specs.Meaning.{given, kept, paused};
 use frames::frame::Frame;
 
 // Where frames wait for the bus. A port means four things, and its calls change nothing of them but what they say.
+// A clause for each that stays, and no clause for all: who uses a port cites them one by one.
 pub trait Port {
     // The frames that wait, first to last.
     ghost waiting: { Self → List Frame };

@@ -5,7 +5,8 @@ use super::port::Port;
 use frames::frame::Frame;
 use frames::queue::Queue;
 
-// The ring port: a queue of frames in lent memory, with no gap between commands.
+// The ring port: a queue of frames in lent memory, with no gap between commands. The queue's own calls have the names of
+// the port's, so a path says that they are meant.
 impl<'a> Port for Queue<'a, Frame> {
     ghost waiting = { queueWaiting };
 

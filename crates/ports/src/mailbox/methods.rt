@@ -1,21 +1,12 @@
-ghost use Rattle.std.specs.Prelude.{◌≡◌, ◌-◌, [], length};
+ghost use Rattle.std.specs.Prelude.{◌≡◌, ◌-◌, ◌==◌, [], length, map, position};
 ghost use Rattle.std.proofs.Common.{arith};
 ghost use Rattle.ports.specs.Mail.{mail_waiting};
 ghost use Rattle.ports.specs.MailLaws.{mail_within};
+ghost use Rattle.ports.specs.Turns.{nearer};
 
 use super::{Mailbox, Slot};
 use crate::port::Port;
 use frames::frame::Frame;
-
-// A slot whose turn is one nearer.
-fn nearer(slot: Slot) -> Slot
-    ensures { (result.turn ≡ slot.turn - 1) × (result.frame ≡ slot.frame) }
-{
-    Slot {
-        turn: slot.turn.saturating_sub(1),
-        frame: slot.frame,
-    }
-}
 
 impl Mailbox {
     // An empty mailbox. The blank frame fills the free slots and never leaves.
@@ -26,18 +17,24 @@ impl Mailbox {
             turn: 0,
             frame: blank,
         };
-        Mailbox {
-            a: free,
-            b: free,
-            c: free,
-        }
+        Mailbox { slots: [free; 3] }
     }
 
-    // How many frames wait: as many as the highest turn.
-    fn waits(&self) -> u8
-        ensures { result ≡ length (mail_waiting self.now) }
+    // The first free slot.
+    fn free(&self) -> Option<usize>
+        ensures { result ≡ position (λ s. s.turn == 0) self.now.slots }
     {
-        self.a.turn.max(self.b.turn).max(self.c.turn)
+        self.slots.iter().position(|slot| slot.turn == 0)
+    }
+
+    // The slots with every turn one nearer. A free slot stays free.
+    fn nearer(&self) -> [Slot; 3]
+        ensures { result ≡ map nearer self.now.slots }
+    {
+        self.slots.map(|slot| Slot {
+            turn: slot.turn.saturating_sub(1),
+            frame: slot.frame,
+        })
     }
 }
 
@@ -55,42 +52,31 @@ impl Port for Mailbox {
     ghost within = { mail_within };
 
     fn room(&self) -> usize {
-        3 - self.waits() as usize
+        self.slots.iter().filter(|slot| slot.turn == 0).count()
     }
 
     fn put(&mut self, frame: Frame) -> bool {
-        let n = self.waits();
-        if n == 3 {
+        let Some(free) = self.free() else {
             return false;
-        }
-        let last = Slot { turn: n + 1, frame };
-        if self.a.turn == 0 {
-            self.a = last;
-        } else if self.b.turn == 0 {
-            self.b = last;
-        } else {
-            self.c = last;
-        }
+        };
+        let waits = self.slots.len() - self.room();
+        self.slots[free] = Slot {
+            turn: waits as u8 + 1,
+            frame,
+        };
         true
     }
 
     fn first(&self) -> Option<Frame> {
-        if self.a.turn == 1 {
-            Some(self.a.frame)
-        } else if self.b.turn == 1 {
-            Some(self.b.frame)
-        } else if self.c.turn == 1 {
-            Some(self.c.frame)
-        } else {
-            None
-        }
+        self.slots
+            .iter()
+            .find(|slot| slot.turn == 1)
+            .map(|slot| slot.frame)
     }
 
     fn take(&mut self) -> Option<Frame> {
         let first = self.first();
-        self.a = nearer(self.a);
-        self.b = nearer(self.b);
-        self.c = nearer(self.c);
+        self.slots = self.nearer();
         first
     }
 

@@ -1,14 +1,11 @@
-use Rattle.std.proofs.Common.{◌≡◌, true, false, length, sym, ap, ◌∙◌, arith, rules}
+use Rattle.std.proofs.Common.{◌≡◌, true, false, length, sym, ◌∙◌, arith, rules}
 use Rattle.std.proofs.lemmas.Bool.{lt-ltb, le-ltb}
 use Rattle.frames.specs.Lists.{accepts}
 use Rattle.ports.proofs.HandedOver.{goes_on, goes_in_order, full, fewer, like}
 use Rattle.ports.proofs.hand_over.hand_over.Goals as goal
 
 pub loop-from-smaller : goal.loop-from-smaller
-loop-from-smaller g c =
-    let from = c.loop-from.from in
-    let gone = fewer (g.P.Port.waiting from) (g.P.Port.pause from) c.in-Some.frame (sym c.in-Some.is ∙ c.take.ensures.answer) in
-    omega (arith, gone, ap length c.take.ensures.list)
+loop-from-smaller g c = fewer _ _ (g.P.Port.pause c.loop-from.from) c.in-Some.frame (sym c.in-Some.is ∙ c.take.ensures.answer) c.take.ensures.list
 
 pub loop-from-preserved : goal.loop-from-preserved
 loop-from-preserved g c =
