@@ -53,7 +53,7 @@ fn largest(size: u8) -> u32
     }
 }
 
-impl<'a> Cursor<'a> {
+impl Cursor<'_> {
     // The number of the line that is due, within low to high.
     fn field(&mut self, key: Key, low: u32, high: u32) -> Result<u32, Fault>
         ensures reads { ReadAs (λ (n : ℕ). n) (ranged key low high) self.old result self.new }
@@ -61,7 +61,7 @@ impl<'a> Cursor<'a> {
     {
         let line = self.line();
         let n = self.number(key)?;
-        if n < low || high < n {
+        if !(low..=high).contains(&n) {
             return Err(Fault::Range {
                 line,
                 key,

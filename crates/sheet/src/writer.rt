@@ -22,7 +22,7 @@ struct Writer<'a> {
     len: usize,
 }
 
-impl<'a> Writer<'a> {
+impl Writer<'_> {
     fn put(&mut self, bytes: &[u8])
         requires { self.old.len + length bytes.now < 2 ^ 40 }
         ensures { Adds self.old bytes.now self.new }
