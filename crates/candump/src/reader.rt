@@ -65,6 +65,7 @@ fn frame_with(id: u32, text: &[u8]) -> Option<Frame>
         return None;
     }
     let mut bytes = Few::<u8, 8>::new(0);
+    // A pattern and no `chunks`, whose remainder, an odd digit, would be one more thing to read.
     let mut rest = text;
     while let [high, low, more @ ..] = rest {
         bytes.push(number(16, &[*high, *low])? as u8);
