@@ -1,4 +1,5 @@
 pub mod Logs
+pub mod Texts
 pub mod Times
 pub mod Trials
 pub mod Views

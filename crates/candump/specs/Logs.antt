@@ -5,6 +5,7 @@ use Rattle.std.specs.Char.{digit_value}
 use Rattle.std.specs.Int.{is_in_range}
 use Rattle.frames.specs.Contents.{Content}
 use Rattle.sheet.specs.Lines.{cut_at}
+use Rattle.script.specs.Sessions.{and_then}
 
 -- the words of a line
 pub record Split : Type 0 where
@@ -16,11 +17,6 @@ pub record Split : Type 0 where
 pub record Seen : Type 0 where
   pub micros : ℕ
   pub content : Content
-
--- go on with what is there
-abbrev pub and_then : {A B : Type 0} → Option A → (A → Option B) → Option B
-and_then None f = None
-and_then (Some a) f = f a
 
 -- the number that digits say after a front that is worth n, if each is a digit below the radix; 'a' and 'A' are ten
 abbrev pub number_on : ℕ → ℕ → List ℕ → Option ℕ

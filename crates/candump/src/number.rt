@@ -15,6 +15,7 @@ pub(crate) fn number(radix: u32, digits: &[u8]) -> Option<u64>
     if digits.is_empty() || digits.len() > MOST_DIGITS {
         return None;
     }
+    // A loop: that a step fits follows from the digits before it, of which a closure of `try_fold` knows nothing.
     let mut n = 0;
     for b in digits {
         let digit = char::from(*b).to_digit(radix)?;

@@ -10,32 +10,20 @@ use crate::entry::{Entry, Words};
 use crate::number::number;
 use frames::frame::Frame;
 use script::cut;
-
-// What stands after a `b` that comes first.
-fn after(s: &[u8], b: u8) -> Option<&[u8]>
-    ensures { option_map held result ≡ after_first b s.now }
-{
-    match s {
-        [first, rest @ ..] if *first == b => Some(rest),
-        _ => None,
-    }
-}
+use sheet::Few;
 
 // A line may end in a carriage return.
 fn trimmed(line: &[u8]) -> &[u8]
     ensures { result.now ≡ without 13 line.now }
 {
-    match line {
-        [front @ .., b'\r'] => front,
-        _ => line,
-    }
+    line.strip_suffix(b"\r").unwrap_or(line)
 }
 
 fn words(line: &[u8]) -> Option<Words<'_>>
     ensures { option_map words_of result ≡ words_in line.now }
 {
-    let (stamp, rest) = cut(after(line, b'(')?, b')')?;
-    let (interface, message) = cut(after(rest, b' ')?, b' ')?;
+    let (stamp, rest) = cut(line.strip_prefix(b"(")?, b')')?;
+    let (interface, message) = cut(rest.strip_prefix(b" ")?, b' ')?;
     if interface.is_empty() {
         return None;
     }
@@ -64,11 +52,8 @@ fn identifier(text: &[u8]) -> Option<u32>
     if text.len() != 3 {
         return None;
     }
-    let id = number(16, text)?;
-    if id > 2047 {
-        return None;
-    }
-    Some(id as u32)
+    let id = u32::try_from(number(16, text)?).ok()?;
+    (id <= 2047).then_some(id)
 }
 
 // A frame with an identifier and bytes of two digits each, at most eight of them.
@@ -79,19 +64,17 @@ fn frame_with(id: u32, text: &[u8]) -> Option<Frame>
     if text.len() > 16 {
         return None;
     }
-    let mut bytes = [0u8; 8];
-    let mut n = 0;
+    let mut bytes = Few::<u8, 8>::new(0);
+    // A pattern and no `chunks`, whose remainder, an odd digit, would be one more thing to read.
     let mut rest = text;
     while let [high, low, more @ ..] = rest {
-        let byte = number(16, &[*high, *low])?;
-        bytes[n] = byte as u8;
-        n += 1;
+        bytes.push(number(16, &[*high, *low])? as u8);
         rest = more;
     }
     if !rest.is_empty() {
         return None;
     }
-    Frame::new(id, &bytes[0..n]).ok()
+    Frame::new(id, bytes.as_slice()).ok()
 }
 
 fn frame(message: &[u8]) -> Option<Frame>

@@ -1,19 +1,13 @@
 // Many calls of one kind.
-ghost use Rattle.std.specs.Prelude.{◌≡◌, ◌≤◌, is_ok, if◌then◌else◌};
+ghost use Rattle.std.specs.Prelude.{◌≡◌, ◌≤◌, is_ok, IfSome, if◌then◌else◌};
 ghost use Rattle.sheet.specs.Format.{reading};
 
 use master::{Master, Use, Worked};
 use ports::port::Port;
 use sheet::Sheet;
+use std::alloc::{AllocError, Global};
 
-#[derive(Clone, Copy)]
-pub enum Kind {
-    Ticks,
-    Heartbeats,
-    Works,
-}
-
-fn ticks<P: Port>(master: &mut Master<P>, count: u32) -> u32
+pub(crate) fn ticks<P: Port>(master: &mut Master<P>, count: u32) -> u32
     ensures { result ≤ count }
 {
     for _ in 0..count {
@@ -22,70 +16,53 @@ fn ticks<P: Port>(master: &mut Master<P>, count: u32) -> u32
     if master.go() { count } else { 0 }
 }
 
-// The identifier of the heartbeat of the slave at a place of the sheet.
-fn heartbeat_id<P: Port>(master: &Master<P>, place: usize) -> Option<u32> {
-    let slave = master.sheet().slaves.get(place)?;
-    Some(0x700 + u32::from(slave.node))
+// The identifiers of the listed slaves' heartbeats.
+fn heartbeat_ids<P: Port>(heap: Global, master: &Master<P>) -> Result<Vec<u32>, AllocError> {
+    master
+        .sheet()
+        .slaves
+        .iter()
+        .map(|slave| 0x700 + u32::from(slave.node))
+        .collect(heap)
 }
 
-fn heartbeats<P: Port>(master: &mut Master<P>, bytes: &[u8], count: u32) -> u32
+// The heartbeats of the listed slaves in turn, each with these bytes. None if there is no memory.
+pub(crate) fn heartbeats<P: Port>(
+    heap: Global,
+    master: &mut Master<P>,
+    bytes: &[u8],
+    count: u32,
+) -> Option<u32>
+    ensures { IfSome result (λ n. n ≤ count) }
+{
+    let ids = heartbeat_ids(heap, master).ok()?;
+    let used = ids
+        .iter()
+        .cycle()
+        .take(count as usize)
+        .filter(|id| master.heard(**id, bytes) == Ok(Use::Used))
+        .count();
+    Some(used as u32)
+}
+
+pub(crate) fn works<P: Port>(master: &mut Master<P>, count: u32) -> u32
     ensures { result ≤ count }
 {
-    let mut used: u32 = 0;
-    let mut place: usize = 0;
-    for i in 0..count {
-        let Some(id) = heartbeat_id(master, place) else {
-            return used;
-        };
-        if let Ok(Use::Used) = master.heard(id, bytes) {
-            used += 1;
-        }
-        place += 1;
-        if place >= master.sheet().slaves.len() {
-            place = 0;
-        }
-    }
-    used
+    let idle = (0..count)
+        .filter(|_| master.work() == Ok(Worked::NothingDue))
+        .count();
+    idle as u32
 }
 
-fn works<P: Port>(master: &mut Master<P>, count: u32) -> u32
-    ensures { result ≤ count }
-{
-    let mut idle: u32 = 0;
-    for i in 0..count {
-        if let Ok(Worked::NothingDue) = master.work() {
-            idle += 1;
-        }
-    }
-    idle
-}
-
-// A heartbeat has these bytes.
-pub fn batch<P: Port>(master: &mut Master<P>, kind: Kind, bytes: &[u8], count: u32) -> u32
-    ensures { result ≤ count }
-{
-    match kind {
-        Kind::Ticks => ticks(master, count),
-        Kind::Heartbeats => heartbeats(master, bytes, count),
-        Kind::Works => works(master, count),
-    }
-}
-
-fn reads(sheet: &mut Sheet, text: &[u8]) -> u32
-    ensures { result ≡ (if is_ok (reading text.now) then 1 else 0) }
-{
-    match sheet.read(text) {
-        Ok(()) => 1,
-        Err(_) => 0,
-    }
-}
-
-pub fn readings(sheet: &mut Sheet, text: &[u8], count: u32) -> u32
+// How many readings of a text found no fault.
+pub(crate) fn readings(sheet: &mut Sheet, text: &[u8], count: u32) -> u32
     ensures { result ≡ (if is_ok (reading text.now) then count else 0) }
 {
-    let mut read: u32 = 0;
-    for i in 0..count {
-        read += reads(sheet, text);
+    let mut read = 0;
+    for _ in 0..count {
+        if sheet.read(text).is_ok() {
+            read += 1;
+        }
     }
     read
 }

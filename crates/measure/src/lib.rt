@@ -9,9 +9,9 @@ ghost use Rattle.sheet.specs.Format.{reading};
 mod batches;
 mod prefix;
 
-use batches::{Kind, readings};
+use batches::{heartbeats, readings, ticks, works};
 use prefix::after_session;
-use script::{Style, run};
+use script::{Style, ring_places, run};
 use sheet::Sheet;
 use std::alloc::Global;
 
@@ -20,7 +20,11 @@ use std::alloc::Global;
 pub extern "C" fn measure_ticks(heap: Global, sheet: &[u8], session: &[u8], count: u32) -> u32
     ensures { result ≤ count }
 {
-    after_session(heap, sheet, session, Kind::Ticks, &[], count)
+    let mut places = ring_places();
+    let Some(mut master) = after_session(heap, sheet, session, &mut places) else {
+        return 0;
+    };
+    ticks(&mut master, count)
 }
 
 // How many of the heartbeats with these bytes, of the listed slaves in turn, were used.
@@ -34,7 +38,11 @@ pub extern "C" fn measure_heartbeats(
 ) -> u32
     ensures { result ≤ count }
 {
-    after_session(heap, sheet, session, Kind::Heartbeats, bytes, count)
+    let mut places = ring_places();
+    let Some(mut master) = after_session(heap, sheet, session, &mut places) else {
+        return 0;
+    };
+    heartbeats(heap, &mut master, bytes, count).unwrap_or(0)
 }
 
 // How many of the works found nothing due.
@@ -42,7 +50,11 @@ pub extern "C" fn measure_heartbeats(
 pub extern "C" fn measure_works(heap: Global, sheet: &[u8], session: &[u8], count: u32) -> u32
     ensures { result ≤ count }
 {
-    after_session(heap, sheet, session, Kind::Works, &[], count)
+    let mut places = ring_places();
+    let Some(mut master) = after_session(heap, sheet, session, &mut places) else {
+        return 0;
+    };
+    works(&mut master, count)
 }
 
 // How many of the readings of a sheet's text found no fault: all of them or none.
@@ -58,7 +70,7 @@ pub extern "C" fn measure_readings(heap: Global, text: &[u8], count: u32) -> u32
 
 fn copy_front(from: &[u8], to: &mut [u8]) {
     let n = from.len().min(to.len());
-    to[0..n].copy_from_slice(&from[0..n]);
+    to[..n].copy_from_slice(&from[..n]);
 }
 
 // The length of what a session prints, of which as much is written as `out` has room for.

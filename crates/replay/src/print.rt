@@ -2,7 +2,7 @@
 use frames::frame::Frame;
 use std::io::Write;
 
-// A frame as a line of a candump log.
+// A frame as a line of a candump log. The interface is bytes, which no `Display` can write.
 pub(crate) fn print_frame<W: Write>(
     out: &mut W,
     micros: u64,

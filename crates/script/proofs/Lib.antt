@@ -1,4 +1,4 @@
-pub mod Framing
 pub mod Keeping
 pub mod Parting
 pub mod Playing
+pub mod Taking

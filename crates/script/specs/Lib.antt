@@ -1,3 +1,4 @@
 pub mod Plays
 pub mod Sessions
+pub mod Styles
 pub mod Views

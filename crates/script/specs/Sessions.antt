@@ -1,5 +1,6 @@
 -- What the text of a session says.
 use Rattle.std.specs.Prelude.{ℕ, cond, List, [], ◌∷◌, take, Some, None, codes, Option, ◌==◌, nat_lt}
+use Rattle.std.specs.List.{onto_first, slice_split}
 use Rattle.std.specs.Option.{option_map, unwrap_or}
 use Rattle.std.specs.Str.{bytes_eq}
 use Rattle.sheet.specs.Decimal.{numeral, value_on}
@@ -27,15 +28,9 @@ number_in t = cond (numeral t) (Some (value_on 0 t)) None
 abbrev pub byte_in : List ℕ → Option ℕ
 byte_in t = and_then (number_in t) (λ n. cond (nat_lt 255 n) None (Some n))
 
--- put in front of the first part
-abbrev pub on_first : ℕ → List (List ℕ) → List (List ℕ)
-on_first c [] = []
-on_first c (p ∷ ps) = (c ∷ p) ∷ ps
-
 -- the parts between the commas, one more than there are commas
 abbrev pub parts : List ℕ → List (List ℕ)
-parts [] = [] ∷ []
-parts (c ∷ cs) = cond (c == 44) ([] ∷ parts cs) (on_first c (parts cs))
+parts t = slice_split (λ c. c == 44) t
 
 -- the bytes that parts say, if each of them says one
 abbrev pub bytes_in : List (List ℕ) → Option (List ℕ)
@@ -73,3 +68,8 @@ line_in t = and_then (cut_at 61 t) (λ p. and_then (key_in p.0) (λ k. under_key
 -- a line ends before the first byte 10, and the last one at the end of the text
 abbrev pub first_line : List ℕ → List ℕ × List ℕ
 first_line t = unwrap_or (cut_at 10 t) (t, [])
+
+-- the lines of a text, one after the other
+abbrev pub lines : List ℕ → List (List ℕ)
+lines [] = []
+lines (c ∷ cs) = cond (c == 10) ([] ∷ lines cs) (onto_first c (lines cs))

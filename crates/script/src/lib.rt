@@ -2,14 +2,18 @@
 #![tactic(auto)]
 
 pub mod lines;
-pub mod message;
 mod notes;
 mod reader;
 mod report;
+mod ring;
 mod session;
+pub mod style;
+pub mod text;
 
-pub use lines::Line;
-pub use message::Data;
-pub use reader::{cut, next_line, read_line};
-pub use report::Style;
+pub use lines::{Data, Line};
+pub use reader::{next_line, read_line};
+pub use ring::{RingMaster, ring_master, ring_places};
 pub use session::{play, print_report, run};
+pub use sheet::cut;
+pub use style::{Style, UnknownStyle};
+pub use text::Lines;

@@ -1,12 +1,13 @@
 // What the printed lines mean, in words for the fitter.
+use crate::report::Output;
 use frames::frame::Frame;
-use frames::nmt::{Command, NmtMessage};
-use master::{Letter, Refusal};
+use frames::nmt::NmtMessage;
+use master::Letter;
 use std::fmt;
 
-// What a frame asks for, or why there is none.
+// What a line means.
 #[derive(Clone, Copy)]
-pub(crate) struct FrameNote(pub(crate) Option<Frame>);
+pub(crate) struct Note<'a>(pub(crate) Output<'a>);
 
 // What the run came to for a listed slave.
 #[derive(Clone, Copy)]
@@ -16,29 +17,34 @@ pub(crate) struct Outcome {
     pub(crate) letter: Option<Letter>,
 }
 
-// The lamp, green at Go, and the slaves that keep it amber.
-#[derive(Clone, Copy)]
-pub(crate) struct LampNote<'a> {
-    pub(crate) go: bool,
-    pub(crate) slaves: &'a [Outcome],
-}
-
-fn command_text(command: Command) -> &'static str {
-    match command {
-        Command::Start => "start",
-        Command::Stop => "stop",
-        Command::ResetNode => "reset node",
-        Command::ResetCommunication => "reset communication",
+impl fmt::Display for Note<'_> {
+    fn fmt<W: fmt::Write>(&self, f: &mut fmt::Formatter<W>) -> fmt::Result {
+        match self.0 {
+            Output::Out(taken) => write_taken(f, taken),
+            Output::BadSheet(fault) => write!(f, "{fault}"),
+            Output::Refused(refusal) => write!(f, "{refusal}"),
+            Output::Go { go, slaves } => write_lamp(f, go, slaves),
+            Output::Halted(true) => f.write_str(
+                "a needed slave failed or was lost: the master has stopped",
+            ),
+            Output::Halted(false) => f.write_str("the master is at work"),
+            Output::Slave { letter: None, .. } => f.write_str("no result yet"),
+            Output::Slave {
+                letter: Some(letter),
+                ..
+            } => f.write_str(letter_note(letter)),
+        }
     }
 }
 
-fn write_nmt<W: fmt::Write>(f: &mut fmt::Formatter<W>, message: NmtMessage) -> fmt::Result {
-    let command = command_text(message.command);
-    let node = message.node;
-    if node == 0 {
-        write!(f, "NMT {command} to all")
-    } else {
-        write!(f, "NMT {command} to node {node}")
+// What a frame asks for, or why there is none.
+fn write_taken<W: fmt::Write>(f: &mut fmt::Formatter<W>, taken: Option<Frame>) -> fmt::Result {
+    let Some(frame) = taken else {
+        return f.write_str("nothing may leave the port now");
+    };
+    match NmtMessage::read(&frame) {
+        Some(message) => write!(f, "{message}"),
+        None => write_request(f, &frame),
     }
 }
 
@@ -62,25 +68,12 @@ fn write_request<W: fmt::Write>(f: &mut fmt::Formatter<W>, frame: &Frame) -> fmt
     )
 }
 
-impl fmt::Display for FrameNote {
-    fn fmt<W: fmt::Write>(&self, f: &mut fmt::Formatter<W>) -> fmt::Result {
-        let Some(frame) = self.0 else {
-            return f.write_str("nothing may leave the port now");
-        };
-        match NmtMessage::read(&frame) {
-            Some(message) => write_nmt(f, message),
-            None => write_request(f, &frame),
-        }
-    }
-}
-
 impl Outcome {
     // A mandatory slave must have passed; an optional one must have had a result.
     fn holds_lamp(self) -> bool {
         match self.letter {
             None => true,
-            Some(Letter::Ready) => false,
-            Some(Letter::FoundRunning) => false,
+            Some(Letter::Ready | Letter::FoundRunning) => false,
             Some(_) => self.mandatory,
         }
     }
@@ -93,63 +86,37 @@ fn write_waiting<W: fmt::Write>(
     slaves: &[Outcome],
     mandatory: bool,
 ) -> fmt::Result {
-    let mut any = false;
-    for slave in slaves {
-        if slave.mandatory == mandatory && slave.holds_lamp() {
-            if any {
-                f.write_str(", ")?;
-            } else {
-                f.write_str(heading)?;
-            }
-            let node = slave.node;
-            write!(f, "{node}")?;
-            any = true;
-        }
+    let mut waiting = slaves
+        .iter()
+        .filter(|slave| slave.mandatory == mandatory && slave.holds_lamp());
+    if let Some(first) = waiting.next() {
+        write!(f, "{heading}{}", first.node)?;
+    }
+    for slave in waiting {
+        write!(f, ", {}", slave.node)?;
     }
     Ok(())
 }
 
-impl fmt::Display for LampNote<'_> {
-    fn fmt<W: fmt::Write>(&self, f: &mut fmt::Formatter<W>) -> fmt::Result {
-        if self.slaves.is_empty() {
-            return f.write_str("lamp green: the sheet lists no slave");
-        }
-        if self.go {
-            return f.write_str("lamp green: every needed slave has passed");
-        }
-        f.write_str("lamp amber")?;
-        write_waiting(f, ": waiting for slaves ", self.slaves, true)?;
-        write_waiting(
-            f,
-            "; optional slaves still being checked: ",
-            self.slaves,
-            false,
-        )
+// The lamp, green at Go, and the slaves that keep it amber.
+fn write_lamp<W: fmt::Write>(
+    f: &mut fmt::Formatter<W>,
+    go: bool,
+    slaves: &[Outcome],
+) -> fmt::Result {
+    if slaves.is_empty() {
+        return f.write_str("lamp green: the sheet lists no slave");
     }
+    if go {
+        return f.write_str("lamp green: every needed slave has passed");
+    }
+    f.write_str("lamp amber")?;
+    write_waiting(f, ": waiting for slaves ", slaves, true)?;
+    write_waiting(f, "; optional slaves still being checked: ", slaves, false)
 }
 
-pub(crate) fn refusal_note(refusal: Refusal) -> &'static str {
-    match refusal {
-        Refusal::NoNode => "a node is from 1 to 127",
-        Refusal::NoFrame =>
-            "no frame: the identifier is above 2047, or there are more than 8 bytes",
-        Refusal::Halted => "the master is halted",
-        Refusal::NoRoom => "something is due, and the port is full",
-    }
-}
-
-pub(crate) fn halted_note(halted: bool) -> &'static str {
-    if halted {
-        "a needed slave failed or was lost: the master has stopped"
-    } else {
-        "the master is at work"
-    }
-}
-
-pub(crate) fn letter_note(letter: Option<Letter>) -> &'static str {
-    let Some(letter) = letter else {
-        return "no result yet";
-    };
+// A function, since a type of its own would be printed in this one place only.
+fn letter_note(letter: Letter) -> &'static str {
     match letter {
         Letter::NotListed => "not on the sheet",
         Letter::NoAnswer => "no answer to the read of the device type",

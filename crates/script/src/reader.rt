@@ -1,36 +1,19 @@
 // The lines of a session's text, and what each asks for.
 ghost use Rattle.std.specs.Prelude.{◌≡◌, ◌<◌, length};
 ghost use Rattle.std.specs.Option.{option_map};
-ghost use Rattle.std.specs.Str.{bytes_eq};
-ghost use Rattle.sheet.specs.Lines.{cut_at};
-ghost use Rattle.script.specs.Sessions.{number_in, byte_in, kept_in, parts, frame_in, key_in, under_key, line_in, first_line};
-ghost use Rattle.script.specs.Views.{bytes_of, line_of, pair_of};
+ghost use Rattle.sheet.specs.Pairs.{pair_of};
+ghost use Rattle.script.specs.Sessions.{number_in, byte_in, parts, frame_in, key_in, under_key, line_in, first_line};
+ghost use Rattle.script.specs.Views.{line_of};
 
-use crate::lines::{Key, Line};
-use crate::message::Data;
-use sheet::number;
-
-// What stands before the first `b`, and what after it; none if there is no `b`.
-pub fn cut(s: &[u8], b: u8) -> Option<(&[u8], &[u8])>
-    ensures { option_map pair_of result ≡ cut_at b s.now }
-{
-    for (i, x) in s.iter().enumerate() {
-        if *x == b {
-            return Some((&s[0..i], &s[i + 1..]));
-        }
-    }
-    None
-}
+use crate::lines::{Data, Key, Line};
+use sheet::{cut, number};
 
 // The text's first line without its end, and the text after it. The last line may lack its end.
 pub fn next_line(text: &[u8]) -> (&[u8], &[u8])
     ensures value { pair_of result ≡ first_line text.now }
     ensures shorter { 0 < length text.now → length result.1.now < length text.now }
 {
-    match cut(text, b'\n') {
-        Some(line) => line,
-        None => (text, &[]),
-    }
+    cut(text, b'\n').unwrap_or((text, &[]))
 }
 
 fn decimal(digits: &[u8]) -> Option<u32>
@@ -42,64 +25,31 @@ fn decimal(digits: &[u8]) -> Option<u32>
 fn byte(digits: &[u8]) -> Option<u8>
     ensures { result ≡ byte_in digits.now }
 {
-    let n = decimal(digits)?;
-    if n > 255 {
-        return None;
-    }
-    Some(n as u8)
+    u8::try_from(decimal(digits)?).ok()
 }
 
-// Bytes with a comma between each two.
-fn bytes(text: &[u8]) -> Option<Data>
-    ensures { option_map bytes_of result ≡ kept_in (parts text.now) }
-{
-    let mut data = Data::none();
-    let mut rest = text;
-    while let Some((first, more)) = cut(rest, b',') {
-        data.push(byte(first)?);
-        rest = more;
-    }
-    data.push(byte(rest)?);
-    Some(data)
-}
-
-// An identifier, and behind a comma the bytes, if there are any.
+// An identifier, and behind it bytes, with a comma between each two.
 fn heard(value: &[u8]) -> Option<Line>
     ensures { option_map line_of result ≡ frame_in (parts value.now) }
 {
-    match cut(value, b',') {
-        Some((first, more)) => {
-            let id = decimal(first)?;
-            let data = bytes(more)?;
-            Some(Line::Heard { id, data })
-        }
-        None => {
-            let id = decimal(value)?;
-            let data = Data::none();
-            Some(Line::Heard { id, data })
-        }
+    let mut parts = value.split(|b| *b == b',');
+    let id = decimal(parts.next()?)?;
+    let mut data = Data::new(0);
+    for part in parts {
+        data.push(byte(part)?);
     }
-}
-
-fn same(text: &[u8], name: &str) -> bool
-    ensures { result ≡ bytes_eq text.now name.now }
-{
-    text == name.as_bytes()
+    Some(Line::Heard { id, data })
 }
 
 fn key(name: &[u8]) -> Option<Key>
     ensures { result ≡ key_in name.now }
 {
-    if same(name, "heard") {
-        Some(Key::Heard)
-    } else if same(name, "work") {
-        Some(Key::Work)
-    } else if same(name, "take") {
-        Some(Key::Take)
-    } else if same(name, "tick") {
-        Some(Key::Tick)
-    } else {
-        None
+    match name {
+        b"heard" => Some(Key::Heard),
+        b"work" => Some(Key::Work),
+        b"take" => Some(Key::Take),
+        b"tick" => Some(Key::Tick),
+        _ => None,
     }
 }
 

@@ -1,85 +1,68 @@
 // The lines that a run prints, and the column behind them.
+use crate::notes::{Note, Outcome};
+use crate::style::Style;
 use frames::frame::Frame;
-use master::Letter;
+use master::{Letter, Refusal};
+use sheet::Fault;
 use std::alloc::Global;
 use std::fmt;
 use std::io::Write;
 
-#[derive(Clone, Copy)]
-pub enum Style {
-    Plain,
-    // each line with a note for the fitter behind it
-    Explained,
-}
-
 // A line as it is printed.
 #[derive(Clone, Copy)]
-pub(crate) enum Output {
+pub(crate) enum Output<'a> {
     // what a take answered
     Out(Option<Frame>),
-    Refused(u8),
-    Go(bool),
+    BadSheet(Fault),
+    Refused(Refusal),
+    // Go, with what the run came to for each listed slave
+    Go { go: bool, slaves: &'a [Outcome] },
     Halted(bool),
     Slave { node: u8, letter: Option<Letter> },
 }
 
-fn write_out<W: fmt::Write>(f: &mut fmt::Formatter<W>, taken: Option<Frame>) -> fmt::Result {
-    let Some(frame) = taken else {
-        return f.write_str("out=none");
-    };
-    let id = frame.id();
-    write!(f, "out={id}")?;
-    for byte in frame.data() {
-        write!(f, ",{byte}")?;
-    }
-    Ok(())
-}
-
-impl fmt::Display for Output {
+impl fmt::Display for Output<'_> {
     fn fmt<W: fmt::Write>(&self, f: &mut fmt::Formatter<W>) -> fmt::Result {
         match *self {
-            Output::Out(taken) => write_out(f, taken),
-            Output::Refused(number) => write!(f, "refused={number}"),
-            Output::Go(go) => {
-                let digit = u8::from(go);
-                write!(f, "go={digit}")
-            }
-            Output::Halted(halted) => {
-                let digit = u8::from(halted);
-                write!(f, "halted={digit}")
-            }
-            Output::Slave { node, letter } => {
-                let text = match letter {
-                    Some(letter) => letter.text(),
-                    None => "none",
-                };
-                write!(f, "slave={node},{text}")
-            }
+            Output::Out(Some(frame)) => write!(f, "out={frame}"),
+            Output::Out(None) => f.write_str("out=none"),
+            Output::BadSheet(fault) => write!(f, "refused={}", fault.number()),
+            Output::Refused(refusal) => write!(f, "refused={}", refusal.number()),
+            Output::Go { go, .. } => write!(f, "go={}", u8::from(go)),
+            Output::Halted(halted) => write!(f, "halted={}", u8::from(halted)),
+            Output::Slave { node, letter: None } => write!(f, "slave={node},none"),
+            Output::Slave {
+                node,
+                letter: Some(letter),
+            } => write!(f, "slave={node},{letter}"),
         }
     }
 }
 
-#[derive(Clone, Copy)]
-pub(crate) struct Printer {
+// Where the lines go, and whether each has its note.
+#[derive(Drop)]
+pub(crate) struct Printer<'a, W> {
     pub(crate) heap: Global,
     pub(crate) style: Style,
+    pub(crate) out: &'a mut W,
 }
 
-impl Printer {
-    // A line, and its note if the style wants it.
-    pub(crate) fn line<W: Write, N: fmt::Display>(
-        self,
-        out: &mut W,
-        line: Output,
-        note: &N,
-    ) -> anyhow::Result<()> {
+impl<W: Write> Printer<'_, W> {
+    pub(crate) fn line(&mut self, line: Output<'_>) -> anyhow::Result<()> {
         match self.style {
-            Style::Plain => writeln!(out, "{line}")?,
+            Style::Plain => writeln!(self.out, "{line}")?,
             Style::Explained => {
                 let text = format!(in self.heap; "{line}")?;
-                writeln!(out, "{text:<32}  {note}")?;
+                writeln!(self.out, "{text:<32}  {}", Note(line))?;
             }
         }
         Ok(())
+    }
+    // The line of a call that was refused, if it was.
+    pub(crate) fn refusal<T: Copy>(&mut self, answer: Result<T, Refusal>) -> anyhow::Result<()> {
+        match answer {
+            Ok(_) => Ok(()),
+            Err(refusal) => self.line(Output::Refused(refusal)),
+        }
     }
 }

@@ -1,102 +1,68 @@
 // A session, run on a fresh master by the single calls.
 ghost use Rattle.std.specs.Prelude.{◌≡◌, OnOk};
-ghost use Rattle.master.specs.Masters.{machine_by};
-ghost use Rattle.master.specs.Session.{pass, work, take};
-ghost use Rattle.script.specs.Plays.{repeated, done, played};
+ghost use Rattle.script.specs.Plays.{times, done, played};
 ghost use Rattle.script.specs.Views.{line_of};
 
 use crate::lines::Line;
-use crate::notes::{FrameNote, LampNote, Outcome, halted_note, letter_note, refusal_note};
-use crate::reader::{next_line, read_line};
-use crate::report::{Output, Printer, Style};
-use frames::nmt::{Command, NmtMessage};
-use frames::queue::Queue;
-use master::{Master, Refusal};
-use ports::gap_port::GapPort;
+use crate::notes::Outcome;
+use crate::reader::read_line;
+use crate::report::{Output, Printer};
+use crate::ring::{ring_master, ring_places};
+use crate::style::Style;
+use crate::text::Lines;
+use master::Master;
 use ports::port::Port;
 use sheet::Sheet;
 use std::alloc::{AllocError, Global};
 use std::io::Write;
 
-fn print_refusal<W: Write>(printer: Printer, out: &mut W, refusal: Refusal) -> anyhow::Result<()> {
-    let number = refusal.number();
-    printer.line(out, Output::Refused(number), &refusal_note(refusal))
-}
-
-fn work_times<W: Write, P: Port>(
-    printer: Printer,
-    out: &mut W,
-    master: &mut Master<P>,
+// Makes a call so many times, unless one of them ends in an error.
+fn repeat<M, F: FnMut(&mut M) -> anyhow::Result<()>>(
+    master: &mut M,
     count: u32,
+    mut call: F,
 ) -> anyhow::Result<()>
-    ensures { OnOk result (machine_by P.Port.waiting P.Port.most P.Port.gap P.Port.pause master.new ≡ repeated work count (machine_by P.Port.waiting P.Port.most P.Port.gap P.Port.pause master.old)) }
+    requires { (f : F) (m : _) → F.pre f m }
+    ensures { (step : M → M) → ((f : F) (m : _) (r : _) (n : _) (g : F) → F.step f m r n g → OnOk r (n.now ≡ step m.now)) → OnOk result (master.new ≡ times step count master.old) }
 {
-    for _i in 0..count {
-        if let Err(refusal) = master.work() {
-            print_refusal(printer, out, refusal)?;
-        }
+    for _ in 0..count {
+        call(master)?;
     }
     Ok(())
-}
-
-fn take_times<W: Write, P: Port>(
-    printer: Printer,
-    out: &mut W,
-    master: &mut Master<P>,
-    count: u32,
-) -> anyhow::Result<()>
-    ensures { OnOk result (machine_by P.Port.waiting P.Port.most P.Port.gap P.Port.pause master.new ≡ repeated take count (machine_by P.Port.waiting P.Port.most P.Port.gap P.Port.pause master.old)) }
-{
-    for _i in 0..count {
-        let frame = master.take();
-        printer.line(out, Output::Out(frame), &FrameNote(frame))?;
-    }
-    Ok(())
-}
-
-fn tick_times<P: Port>(master: &mut Master<P>, count: u32)
-    ensures { machine_by P.Port.waiting P.Port.most P.Port.gap P.Port.pause master.new ≡ repeated pass count (machine_by P.Port.waiting P.Port.most P.Port.gap P.Port.pause master.old) }
-{
-    for _i in 0..count {
-        master.tick();
-    }
 }
 
 // The calls that a line asks for. A refused call does not end a count.
 fn carry_out<W: Write, P: Port>(
-    printer: Printer,
-    out: &mut W,
+    printer: &mut Printer<'_, W>,
     master: &mut Master<P>,
     line: Line,
 ) -> anyhow::Result<()>
-    ensures { OnOk result (machine_by P.Port.waiting P.Port.most P.Port.gap P.Port.pause master.new ≡ done (line_of line) (machine_by P.Port.waiting P.Port.most P.Port.gap P.Port.pause master.old)) }
+    ensures { OnOk result (master.new ≡ done (line_of line) master.old) }
 {
     match line {
-        Line::Heard { id, data } => {
-            if let Err(refusal) = master.heard(id, data.as_slice()) {
-                print_refusal(printer, out, refusal)?;
-            }
+        Line::Heard { id, data } => printer.refusal(master.heard(id, data.as_slice())),
+        Line::Work(count) => repeat(master, count, |master| printer.refusal(master.work())),
+        Line::Take(count) => repeat(master, count, |master| {
+            printer.line(Output::Out(master.take()))
+        }),
+        Line::Tick(count) => repeat(master, count, |master| {
+            master.tick();
             Ok(())
-        }
-        Line::Work(count) => work_times(printer, out, master, count),
-        Line::Take(count) => take_times(printer, out, master, count),
-        Line::Tick(count) => {
-            tick_times(master, count);
-            Ok(())
-        }
+        }),
     }
 }
 
 fn outcomes<P: Port>(heap: Global, master: &Master<P>) -> Result<Vec<Outcome>, AllocError> {
-    let mut slaves = Vec::new(heap);
-    for slave in master.sheet().slaves.as_slice() {
-        slaves.push(Outcome {
+    master
+        .sheet()
+        .slaves
+        .iter()
+        .map(|slave| Outcome {
             node: slave.node,
             mandatory: slave.mandatory,
             letter: master.result(slave.node).unwrap_or(None),
-        })?;
-    }
-    Ok(slaves)
+        })
+        .collect(heap)
 }
 
 // Prints what a master has come to: Go, halted and the slaves' letters.
@@ -106,20 +72,14 @@ pub fn print_report<W: Write, P: Port>(
     style: Style,
     master: &Master<P>,
 ) -> anyhow::Result<()> {
-    let printer = Printer { heap, style };
     let slaves = outcomes(heap, master)?;
+    let slaves = slaves.as_slice();
+    let mut printer = Printer { heap, style, out };
     let go = master.go();
-    let lamp = LampNote {
-        go,
-        slaves: slaves.as_slice(),
-    };
-    printer.line(out, Output::Go(go), &lamp)?;
-    let halted = master.halted();
-    printer.line(out, Output::Halted(halted), &halted_note(halted))?;
-    for slave in slaves.as_slice() {
-        let node = slave.node;
-        let letter = slave.letter;
-        printer.line(out, Output::Slave { node, letter }, &letter_note(letter))?;
+    printer.line(Output::Go { go, slaves })?;
+    printer.line(Output::Halted(master.halted()))?;
+    for Outcome { node, letter, .. } in slaves.iter().copied() {
+        printer.line(Output::Slave { node, letter })?;
     }
     Ok(())
 }
@@ -133,31 +93,15 @@ pub fn play<W: Write, P: Port>(
     master: &mut Master<P>,
     session: &[u8],
 ) -> anyhow::Result<()>
-    ensures { OnOk result (machine_by P.Port.waiting P.Port.most P.Port.gap P.Port.pause master.new ≡ played session.now (machine_by P.Port.waiting P.Port.most P.Port.gap P.Port.pause master.old)) }
+    ensures { OnOk result (master.new ≡ played session.now master.old) }
 {
-    let printer = Printer { heap, style };
-    let mut rest = session;
-    while !rest.is_empty() {
-        let (text, more) = next_line(rest);
+    let mut printer = Printer { heap, style, out };
+    for text in Lines::new(session) {
         if let Some(line) = read_line(text) {
-            carry_out(printer, out, master, line)?;
+            carry_out(&mut printer, master, line)?;
         }
-        rest = more;
     }
     Ok(())
-}
-
-fn run_on<W: Write, P: Port + Drop>(
-    printer: Printer,
-    out: &mut W,
-    sheet: Sheet,
-    port: P,
-    session: &[u8],
-) -> anyhow::Result<()> {
-    let inhibit = sheet.inhibit;
-    let mut master = Master::new(sheet, GapPort::new(port, inhibit));
-    play(printer.heap, out, printer.style, &mut master, session)?;
-    print_report(printer.heap, out, printer.style, &master)
 }
 
 // Runs a session's text with a sheet's text, and prints what was taken and refused, then Go, halted and the slaves'
@@ -169,24 +113,13 @@ pub fn run<W: Write>(
     sheet_text: &[u8],
     session: &[u8],
 ) -> anyhow::Result<()> {
-    let printer = Printer { heap, style };
     let mut sheet = Sheet::empty(heap)?;
     if let Err(fault) = sheet.read(sheet_text) {
-        printer.line(out, Output::Refused(fault.number()), &fault)?;
+        let mut printer = Printer { heap, style, out };
+        printer.line(Output::BadSheet(fault))?;
     }
-    let blank = NmtMessage {
-        command: Command::Start,
-        node: 0,
-    };
-    let mut slots = [blank.frame(); 64];
-    match Queue::new(&mut slots) {
-        Ok(ring) => run_on(printer, out, sheet, ring, session),
-        Err(refusal) => {
-            printer.line(
-                out,
-                Output::Refused(refusal.number()),
-                &"no memory for the port",
-            )
-        }
-    }
+    let mut places = ring_places();
+    let mut master = ring_master(sheet, &mut places);
+    play(heap, out, style, &mut master, session)?;
+    print_report(heap, out, style, &master)
 }

@@ -6,14 +6,6 @@ use script::{Style, run};
 use std::fs;
 use std::io::{BufWriter, Write};
 
-fn style_of(word: &str) -> anyhow::Result<Style> {
-    match word {
-        "plain" => Ok(Style::Plain),
-        "explained" => Ok(Style::Explained),
-        _ => Err(anyhow!("a case is plain or explained")),
-    }
-}
-
 fn run_case<W: Write>(rt: &HostRuntime, out: &mut W, case: &str) -> anyhow::Result<()> {
     let Some((word, name)) = case.split_once(' ') else {
         return Err(anyhow!("a case has a style and a name"));
@@ -22,7 +14,9 @@ fn run_case<W: Write>(rt: &HostRuntime, out: &mut W, case: &str) -> anyhow::Resu
     let session_path = format!(in rt.alloc(); "{name}.session")?;
     let sheet = fs::read(rt, sheet_path.as_str())?;
     let session = fs::read(rt, session_path.as_str())?;
-    let style = style_of(word)?;
+    let style: Style = word
+        .parse()
+        .map_err(|_| anyhow!("a case is plain or explained"))?;
     writeln!(out, "== {case}")?;
     run(rt.alloc(), out, style, sheet.as_slice(), session.as_slice())
 }

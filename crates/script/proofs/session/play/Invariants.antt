@@ -1,13 +1,11 @@
-use Rattle.std.proofs.Common.{◌≡◌, length}
-use Rattle.master.specs.Masters.{machine_by}
+use Rattle.std.proofs.Common.{◌≡◌}
 use Rattle.script.specs.Plays.{played}
+use Rattle.script.specs.Sessions.{lines}
+use Rattle.script.proofs.Playing.{done_lines}
 use Rattle.script.proofs.session.play.Given as goal
 
--- what the rest of the text makes of the master is what the whole text makes of it
-abbrev pub invariant-loop-rest : goal.invariant-loop-rest
-invariant-loop-rest g l =
-    played l.rest (machine_by g.P.Port.waiting g.P.Port.most g.P.Port.gap g.P.Port.pause l.master)
-    ≡ played l.session (machine_by g.P.Port.waiting g.P.Port.most g.P.Port.gap g.P.Port.pause l.initial.master)
-
-abbrev pub decreases-loop-rest : goal.decreases-loop-rest
-decreases-loop-rest g l = length l.rest
+-- what the lines that are left make of the master is what the whole text makes of it
+abbrev pub invariant-loop-text : goal.invariant-loop-text
+invariant-loop-text g l =
+    done_lines (lines l.text-iterator.rest.now) l.master
+    ≡ played l.session l.initial.master
