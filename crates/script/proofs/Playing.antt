@@ -1,9 +1,11 @@
 -- The steps of the loops that play a session.
-use Rattle.std.proofs.Common.{◌≡◌, ℕ, suc, ◌+◌, ◌-◌, ◌<◌, ◌≤◌, List, ap, ◌∙◌, arith}
+use Rattle.std.proofs.Common.{◌≡◌, ℕ, zero, suc, ◌+◌, ◌-◌, ◌<◌, ◌≤◌, List, [], ◌∷◌, length, Some, None, Option, sym, refl, ap, ◌∙◌, arith}
+use Rattle.std.proofs.lemmas.Bool.{cond-false, ne_eqb}
 use Rattle.master.specs.Session.{Machine}
-use Rattle.std.specs.List.{filter_map, fold}
-use Rattle.script.specs.Plays.{times, done}
-use Rattle.script.specs.Sessions.{line_in}
+use Rattle.std.specs.List.{filter_map, fold, cons_option}
+use Rattle.script.specs.Plays.{times, done, played, done_line, played_within, LineByLine}
+use Rattle.script.specs.Sessions.{Order, line_in, first_line, lines}
+use Rattle.script.proofs.Parting.{first_shorter, line_first}
 
 -- one step more
 pub once_more : {A : Type 0} (f : A → A) (n i : ℕ) (m o : A) → i < n → o ≡ f m → times f (n - (i + 1)) o ≡ times f (n - i) m
@@ -18,3 +20,24 @@ at_last f n i m o h e = let k : 0 ≡ n - i = omega arith in ap (λ z. times f z
 -- the orders of these lines, one after the other
 abbrev pub done_lines : List (List ℕ) → Machine → Machine
 done_lines ts m = fold (λ m o. done o m) m (filter_map line_in ts)
+
+skipping : (o : Option Order) (os : List Order) (m : Machine) → fold (λ m o. done o m) (done_line o m) os ≡ fold (λ m o. done o m) m (cons_option o os)
+skipping None os m = refl
+skipping (Some o) os m = refl
+
+within : (k : ℕ) (t : List ℕ) (m : Machine) → length t ≤ k → played_within k t m ≡ played t m
+within zero [] m h = refl
+within zero (c ∷ cs) m h = absurd (omega arith)
+within (suc k) [] m h = refl
+within (suc k) (c ∷ cs) m h =
+    let t : List ℕ = c ∷ cs in
+    let some : 0 < length t = omega arith in
+    let r : List ℕ × List ℕ = first_line t in
+    let less = first_shorter t some in
+    cond-false _ _ _ (ne_eqb (length t) 0 (λ e. omega arith))
+    ∙ within k r.1 (done_line (line_in r.0) m) (omega arith)
+    ∙ skipping (line_in r.0) (filter_map line_in (lines r.1)) m
+    ∙ ap (λ ts. done_lines ts m) (sym (line_first t some))
+
+pub line_by_line : LineByLine
+line_by_line t m = sym (within (length t) t m (omega arith))

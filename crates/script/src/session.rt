@@ -1,6 +1,6 @@
 // A session, run on a fresh master by the single calls.
 ghost use Rattle.std.specs.Prelude.{◌≡◌, OnOk};
-ghost use Rattle.script.specs.Plays.{times, done, played};
+ghost use Rattle.script.specs.Plays.{times, done, played, LineByLine};
 ghost use Rattle.script.specs.Views.{line_of};
 
 use crate::lines::Line;
@@ -86,6 +86,7 @@ pub fn print_report<W: Write, P: Port>(
 
 // Makes the calls of a session's text on a master, and prints what was taken and refused. All lines are done, unless
 // printing fails.
+#[tactic(auto, using(crate::proofs::Playing::line_by_line))]
 pub fn play<W: Write, P: Port>(
     heap: Global,
     out: &mut W,
@@ -93,7 +94,8 @@ pub fn play<W: Write, P: Port>(
     master: &mut Master<P>,
     session: &[u8],
 ) -> anyhow::Result<()>
-    ensures { OnOk result (master.new ≡ played session.now master.old) }
+    ensures played { OnOk result (master.new ≡ played session.now master.old) }
+    ensures law { LineByLine }
 {
     let mut printer = Printer { heap, style, out };
     for text in Lines::new(session) {
