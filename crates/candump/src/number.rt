@@ -5,7 +5,7 @@ ghost use Rattle.candump.specs.Logs.{number_in};
 // The seconds of a time stamp have at most so many.
 const MOST_DIGITS: usize = 10;
 
-// Leading zeros are digits like any other; letters may be small or capital.
+// Leading zeros are digits like any other, so it is no number of a sheet, which has none; letters may be small or capital.
 pub(crate) fn number(radix: u32, digits: &[u8]) -> Option<u64>
     requires low { 2 ≤ radix }
     requires high { radix ≤ 16 }

@@ -2,7 +2,7 @@
 ghost use Rattle.std.specs.Prelude.{◌≡◌, ◌≤◌};
 ghost use Rattle.std.specs.Option.{option_map};
 ghost use Rattle.frames.specs.Contents.{content_of};
-ghost use Rattle.candump.specs.Logs.{without, after_first, words_in, stamp_in, identifier_in, framed, content_in, line_in, interface_in};
+ghost use Rattle.candump.specs.Logs.{without, words_in, stamp_in, identifier_in, framed, content_in, line_in, interface_in};
 ghost use Rattle.candump.specs.Trials.{LineTrials};
 ghost use Rattle.candump.specs.Views.{held, words_of, entry_of};
 
@@ -65,7 +65,7 @@ fn frame_with(id: u32, text: &[u8]) -> Option<Frame>
         return None;
     }
     let mut bytes = Few::<u8, 8>::new(0);
-    // A pattern and no `chunks`, whose remainder, an odd digit, would be one more thing to read.
+    // A pattern and no `chunks_exact`: what is left at the end, an odd digit, ends the same walk.
     let mut rest = text;
     while let [high, low, more @ ..] = rest {
         bytes.push(number(16, &[*high, *low])? as u8);

@@ -50,7 +50,7 @@ fn show<P: Port>(rt: &HostRuntime, ms: u32, master: &Master<P>) -> anyhow::Resul
     for slave in master.sheet().slaves.as_slice() {
         let node = slave.node;
         if let Ok(Some(letter)) = master.result(node) {
-            println!(rt; "{ms} ms: node {node} {}", letter.text())?;
+            println!(rt; "{ms} ms: node {node} {letter}")?;
         }
     }
     Ok(())

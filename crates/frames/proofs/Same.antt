@@ -12,7 +12,7 @@ use Rattle.std.proofs.lemmas.Bool.Decides.{Decides-eqb}
 use Rattle.std.proofs.lemmas.Slice.Eq.{slice_eq-Decides}
 use Rattle.std.specs.Cmp.{first_so, second_so}
 use Rattle.std.specs.Cmp.Lexicographic.{pointwise}
-use Rattle.frames.specs.Contents.{content_of}
+use Rattle.frames.specs.Contents.{content_of, ContentDecides}
 use Rattle.frames.specs.Fields.{fields_agree, fields_agree_equiv, FieldsDecide}
 use Rattle.frames.specs.declared.frame.Frame.{Frame}
 
@@ -38,7 +38,7 @@ same_fields f g ids lens places = λ i. record {
   rest_ok = is_prop→PathP (λ j. padded (take (lens j) (places j)) ≡ places j) (λ j. is_set ℕ_set _ _) f.rest_ok g.rest_ok i;
 }
 
-pub same_value : (f g : Frame) → content_of f ≡ content_of g → f ≡ g
+pub same_value : ContentDecides
 same_value f g e =
     let datas : take f.len f.bytes ≡ take g.len g.bytes = ap (λ c. c.bytes) e in
     same_fields f g (ap (λ c. c.id) e)

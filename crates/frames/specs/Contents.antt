@@ -16,3 +16,7 @@ content_of f = record { id = f.id; bytes = take f.len f.bytes }
 abbrev pub Made : ℕ → List ℕ → Result Frame Refusal → Type 0
 Made id bs (Ok f) = (id ≤ 2047) × (length bs ≤ 8) × (content_of f ≡ record { id = id; bytes = bs }) × ((g : Frame) → content_of g ≡ content_of f → g ≡ f)
 Made id bs (Err e) = (e ≡ Malformed) × (id ≤ 2047 → 8 < length bs)
+
+-- Frames of the same content are the same value.
+abbrev pub ContentDecides : Type 0
+ContentDecides = (f g : Frame) → content_of f ≡ content_of g → f ≡ g

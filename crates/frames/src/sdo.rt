@@ -51,7 +51,7 @@ fn write_of(size: Size, value: u32) -> (u8, [u8; 4])
     }
 }
 
-// The value that an answer to a read carries in its last four bytes.
+// The value that an answer to a read carries in its last four bytes. Its codes are not those of a write.
 fn value_in(command: u8, value: [u8; 4]) -> Option<u32>
     ensures { result ≡ value_in command value }
 {

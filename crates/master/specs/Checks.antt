@@ -59,12 +59,12 @@ valued c Vendor v = same v c.vendor letter.OtherVendor
 valued c Product v = same v c.product letter.OtherProduct
 valued c Revision v = same v c.revision letter.OtherRevision
 valued c Serial v = same v c.serial letter.OtherSerial
-valued c (Set i) v = (Ok tt)
+valued c (Set i) v = Ok tt
 
 -- What an answer that fits the request means.
 abbrev pub verdict_of : SlaveLines → Check → Reply → Result (Unit {0}) Letter
 verdict_of c k Abort = Err (unanswered k)
-verdict_of c k Written = (Ok tt)
+verdict_of c k Written = Ok tt
 verdict_of c k (Value v) = valued c k v
 
 -- Check 8 applies where the slave has a heartbeat; past it the slave has passed.

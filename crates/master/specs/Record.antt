@@ -52,14 +52,14 @@ unread = record { at = none; booted = false; word = word.Silence; once = false }
 abbrev pub now_at : Try → Reading → Reading
 now_at t r = record { at = t; booted = r.booted; word = r.word; once = r.once }
 
--- Missed ends the try.
+-- A check that is missed ends the try.
 abbrev pub ended : Reading → Reading
 ended r = record { at = none; booted = r.booted; word = r.word; once = true }
 
 abbrev pub pass : SlaveLines → Bool → Reading → Reading
 pass c running r = record { at = passed running false c.hb; booted = r.booted; word = r.word; once = true }
 
--- (Ok tt) leads to the next set or check that applies; past the last the slave has passed.
+-- A check that is met leads to the next set or check that applies; past the last the slave has passed.
 abbrev pub onward : SlaveLines → Next → Reading → Reading
 onward c (next.Ask k) r = now_at (to_ask k) r
 onward c next.ListenState r = now_at (at_state c.hb) r

@@ -57,7 +57,7 @@ missed_by l e = record {
 abbrev pub lost_by : Entry → Stepped
 lost_by e = record {
   entry = record { stage = ResetDue reset.Node; word = word.Loss; booted = e.booted; result = Some letter.NoHeartbeat; once = e.once };
-  brought = (Some setback.Lost);
+  brought = Some setback.Lost;
 }
 
 -- A pass: L if the slave was found running, else OK. From then on it is lost at hb ticks without a heartbeat.

@@ -7,6 +7,7 @@ use crate::types::{Check, Letter, Next};
 use frames::sdo::{Access, Reply, Request, Size};
 use sheet::{Set, Slave};
 
+// A function and no `From`: neither type is this crate's.
 fn size_of_set(set: &Set) -> Size
     ensures { result ≡ size_by set.now.size }
 {

@@ -20,6 +20,7 @@ use frames::frame::Frame;
 use frames::nmt::{Command, NmtMessage};
 use sheet::{Sheet, Slave};
 
+// It has no model: the proofs of the calls lean on the rules that its sheet keeps, which a model would hide.
 #[derive(Drop)]
 pub struct Network {
     roll: Roll,
@@ -40,7 +41,7 @@ pub struct Course {
     table: Table,
     // none is under way
     sweep: Option<Sweep>,
-    // the node that was served last; 0 at first
+    // the node that was served last; 0 at first, which is no node
     last: u8,
     // a start was put
     started: bool,
@@ -203,7 +204,8 @@ impl Course {
         request_of(c, check).reply(frame).map(Input::Replied)
     }
 
-    // The first of these slaves that is owed something, by its node, and what.
+    // The first of these slaves that is owed something, by its node, and what. A loop, as the definition goes on from slave to
+    // slave; of a `find_map` a proof has the run of an iterator to follow.
     fn first_due(&self, slaves: &[Slave], go: bool) -> Option<(u8, Duty)>
         ensures { result ≡ first_due go self.now.table.entries (map slave_of slaves.now) }
     {
@@ -253,7 +255,7 @@ impl Network {
             .count(self.roll.sheet.slaves.as_slice(), quality)
     }
 
-    // How many of the listed slaves have a quality, and whether all have.
+    // Whether all listed slaves have a quality.
     fn all(&self, quality: Quality) -> bool
         ensures { result ≡ (counted quality (view self.now) == length (listed self.now)) }
     {
@@ -314,7 +316,8 @@ impl Network {
         }
     }
 
-    // The next node after this one that a single reset goes to.
+    // The next node after this one that a single reset goes to. Node by node, as the definition goes: as `map` and `find` the
+    // proof did not close.
     fn single_after(&self, passed: u8) -> Option<u8>
         ensures { result ≡ single_after (view self.now) (127 - passed) passed }
     {
@@ -331,13 +334,13 @@ impl Network {
         ensures { result ≡ next_due (view self.now) }
     {
         let slaves = self.roll.sheet.slaves.as_slice();
+        // Who is owed nothing even while Go is owed nothing.
         self.course.first_due(slaves, true)?;
         let go = self.go();
         let (before, behind) = slaves.split_at(self.count(Quality::Served));
-        match self.course.first_due(behind, go) {
-            Some(due) => Some(due),
-            None => self.course.first_due(before, go),
-        }
+        self.course
+            .first_due(behind, go)
+            .or_else(|| self.course.first_due(before, go))
     }
 
     // Whether one start serves all.

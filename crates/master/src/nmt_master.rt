@@ -1,14 +1,13 @@
 // The NMT master: what it knows of its network, and the port that it speaks through.
 ghost use Rattle.std.specs.Prelude.{◌≡◌, [], ◌∷◌};
 ghost use Rattle.std.specs.Option.{option_map};
-ghost use Rattle.frames.specs.Contents.{content_of};
-ghost use Rattle.ports.specs.Meaning.{given};
+ghost use Rattle.frames.specs.Contents.{content_of, ContentDecides};
 ghost use Rattle.sheet.specs.Sheets.{lines_of};
-ghost use Rattle.master.specs.FromPort.{fresh_machine, LeadsFrom, Carries, Tells};
-ghost use Rattle.master.specs.Masters.{port_by, begun, use_of, called, hearing, hearing_steps, worked_by, asked};
-ghost use Rattle.master.specs.Network.{heard_by, going, is_halted};
+ghost use Rattle.master.specs.FromPort.{LeadsFrom, Carries, Tells};
+ghost use Rattle.master.specs.Masters.{port_by, begun, called, hearing, hearing_steps, worked_by, asked};
+ghost use Rattle.master.specs.Network.{going, is_halted};
 ghost use Rattle.master.specs.Rows.{shown_by, shown_at};
-ghost use Rattle.master.specs.Session.{hear, pass, work, take, after, step_of, works_on, takes, leaves};
+ghost use Rattle.master.specs.Session.{pass, work, take, after, step_of, works_on, takes, leaves};
 ghost use Rattle.master.specs.Views.{view};
 
 use crate::calls::{Answer, Call, Refusal, Use, Worked};
@@ -93,6 +92,7 @@ impl<P: Port> Master<P> {
     // The frame that goes to the bus next, unless the port holds it back.
     pub fn take(&mut self) -> Option<Frame>
         ensures answer { option_map content_of result ≡ (leaves self.old.port.waiting self.old.port).0 }
+        ensures whole { ContentDecides }
         ensures state { self.new ≡ after take self.old }
         ensures law { Carries self.old (takes (option_map content_of result) ∷ []) self.new }
     {

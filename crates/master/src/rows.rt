@@ -4,7 +4,7 @@ ghost use Rattle.frames.specs.Contents.{content_of};
 ghost use Rattle.sheet.specs.Sheets.{lines_of};
 ghost use Rattle.master.specs.Masters.{begun};
 ghost use Rattle.master.specs.Rows.{call_of, shown_of, shown_all, after_all, steps_all, trace_in};
-ghost use Rattle.master.specs.FromPort.{fresh_machine, StandsFrom};
+ghost use Rattle.master.specs.FromPort.{StandsFrom};
 
 use crate::calls::Exchange;
 use crate::nmt_master::Master;

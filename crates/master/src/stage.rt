@@ -1,7 +1,7 @@
 // One slave's entry: what it becomes by what is heard, by a tick, and by what is put to it.
 ghost use Rattle.std.specs.Prelude.{◌≡◌, ◌-◌, not, nat_lt, None, Some, if◌then◌else◌};
 ghost use Rattle.sheet.specs.Views.{slave_of};
-ghost use Rattle.master.specs.Step.{is_boot_up, to, saying, quietly, missed_by, lost_by, passed_by, gone_on, booted_by, on_beat, on_sign, decided, on_reply, on_tick, stepped, reset_put, request_put, start_put, is_passed, is_cleared, is_spared, duty_of};
+ghost use Rattle.master.specs.Step.{is_boot_up, to, saying, quietly, missed_by, lost_by, passed_by, gone_on, booted_by, on_beat, on_sign, on_reply, on_tick, stepped, reset_put, request_put, start_put, is_passed, is_cleared, is_spared, duty_of};
 ghost use Rattle.master.specs.Checks.{runs};
 ghost use Rattle.master.specs.Table.{change_by};
 
@@ -193,7 +193,7 @@ impl Entry {
         }
     }
 
-    // A tick lowers a wait, and one that is at its last tick runs out.
+    // A tick lowers a wait, and one that is at its last tick runs out: an arm for each, since each ends in its own way.
     fn on_tick(self, c: &Slave) -> Stepped
         ensures { result ≡ on_tick (slave_of c.now) self.stage self }
     {

@@ -58,6 +58,7 @@ pub(crate) fn works<P: Port>(master: &mut Master<P>, count: u32) -> u32
 pub(crate) fn readings(sheet: &mut Sheet, text: &[u8], count: u32) -> u32
     ensures { result ≡ (if is_ok (reading text.now) then count else 0) }
 {
+    // A loop, since its count is exact: of a filter whose closure changes the sheet a proof knows the bound alone.
     let mut read = 0;
     for _ in 0..count {
         if sheet.read(text).is_ok() {

@@ -30,7 +30,8 @@ pub trait Port {
     fn room(&self) -> usize
         ensures { result ≡ most self.now - length (waiting self.now) };
 
-    // Adds a frame at the end exactly if there is room, and says whether it did.
+    // Adds a frame at the end exactly if there is room, and says whether it did. A yes or no, and no `Result`: who is declined
+    // still has the frame, which is copied.
     fn put(&mut self, frame: Frame) -> bool
         ensures answer { result ≡ accepts (most self.old) (waiting self.old) }
         ensures list { waiting self.new ≡ added (most self.old) (waiting self.old) frame }

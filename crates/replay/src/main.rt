@@ -13,7 +13,7 @@ const SHEET_PATH: &str = "sheet.txt";
 
 const LOG_PATH: &str = "candump.log";
 
-// Stands in each program: what a file holds has no contract, and a function that crates share must have one.
+// Stands in each program: a public function has to have a contract, and what a file holds has none.
 fn read_file(rt: &HostRuntime, path: &str) -> anyhow::Result<Vec<u8>> {
     match fs::read(rt, path) {
         Ok(bytes) => Ok(bytes),

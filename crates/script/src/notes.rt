@@ -48,6 +48,7 @@ fn write_taken<W: fmt::Write>(f: &mut fmt::Formatter<W>, taken: Option<Frame>) -
     }
 }
 
+// Only for the note: the library puts requests, and reads none.
 fn write_request<W: fmt::Write>(f: &mut fmt::Formatter<W>, frame: &Frame) -> fmt::Result {
     let [command, low, high, sub, a, b, c, d] = frame.data() else {
         return Ok(());

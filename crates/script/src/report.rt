@@ -58,6 +58,7 @@ impl<W: Write> Printer<'_, W> {
         }
         Ok(())
     }
+
     // The line of a call that was refused, if it was.
     pub(crate) fn refusal<T: Copy>(&mut self, answer: Result<T, Refusal>) -> anyhow::Result<()> {
         match answer {

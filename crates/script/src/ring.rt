@@ -31,8 +31,6 @@ pub fn ring_master(sheet: Sheet, places: &mut [Frame; 64]) -> RingMaster<'_>
     ensures { result ≡ fresh_machine (lines_of sheet) (record { waiting = []; most = 64; gap = gap_ticks sheet.inhibit; pause = 0 }) }
 {
     let inhibit = sheet.inhibit;
-    let Ok(ring) = Queue::new(places) else {
-        unreachable!();
-    };
+    let ring = Queue::new(places).unwrap();
     Master::new(sheet, GapPort::new(ring, inhibit))
 }

@@ -1,4 +1,4 @@
-// Decimal numbers: the digits before the last, times ten, plus the last.
+// Decimal numbers, digit by digit.
 ghost use Rattle.std.specs.Prelude.{◌≡◌, ◌+◌, ◌*◌, ◌^◌, ◌<◌, SomeIff};
 ghost use Rattle.sheet.specs.Decimal.{digit_of, number_of, NumberLaws};
 

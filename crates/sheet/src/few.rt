@@ -1,4 +1,5 @@
-// A list of at most N, in its place: it is copied as it is, and takes no memory elsewhere.
+// A list of at most N, in its place: it is copied as it is, which the kit's `ArrayVec` is not, and takes no memory elsewhere.
+// It has no model: a type that is copied has to be had back from its model, and the list does not say what stands in free places.
 ghost use Rattle.std.specs.Prelude.{◌≡◌, ◌≤◌, ⊤};
 
 use std::alloc::AllocError;

@@ -18,7 +18,8 @@ use crate::model::sheet::Sheet;
 use crate::model::slave::Slave;
 use std::alloc::{AllocError, Global};
 
-// The lines before the slaves. A sheet has the same fields, and takes these when all of its lines are read.
+// The lines before the slaves. A sheet's fields are its callers' to read, so it holds no header: it takes these when all of its
+// lines are read.
 #[derive(Clone, Copy)]
 struct Header {
     own: u8,
@@ -200,7 +201,8 @@ impl Cursor<'_> {
         })
     }
 
-    // The slaves, into memory that has room for them.
+    // The slaves, into memory that has room for them. The room is a clause here and no type of its own, since a sheet's slaves
+    // are a `Vec` for its callers.
     fn slaves(&mut self, own: u8, n: u32, slaves: &mut Vec<Slave>) -> Result<(), Fault>
         requires { n ≤ vec_capacity slaves.old }
         ensures room { vec_capacity slaves.new ≡ vec_capacity slaves.old }

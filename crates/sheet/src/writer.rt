@@ -2,7 +2,6 @@
 // code on an empty slice gives the length.
 ghost use Rattle.std.specs.Prelude.{◌≡◌, ◌+◌, ◌^◌, ◌<◌, ◌≤◌, length, if◌then◌else◌, decimal};
 ghost use Rattle.sheet.specs.Format.{set_c, slave_text, text};
-ghost use Rattle.sheet.specs.Keys.{name_of};
 ghost use Rattle.sheet.specs.Lines.{line_text};
 ghost use Rattle.sheet.specs.Rules.{Lasting};
 ghost use Rattle.sheet.specs.Sheets.{lines_of};
@@ -15,6 +14,7 @@ use crate::model::set::Set;
 use crate::model::sheet::Sheet;
 use crate::model::slave::Slave;
 
+// How much longer a call can make the text differs from call to call, so the bounds are clauses and no invariant.
 #[derive(Drop)]
 struct Writer<'a> {
     out: &'a mut [u8],
@@ -27,7 +27,8 @@ impl Writer<'_> {
         requires { self.old.len + length bytes.now < 2 ^ 40 }
         ensures { Adds self.old bytes.now self.new }
     {
-        // By index: of what is written through `iter_mut` or `get_mut`, a proof knows the length alone.
+        // By index: a copy into a range would first have to be cut to what fits, and of what is written through `iter_mut` or
+        // `get_mut` a proof knows the length alone.
         for b in bytes {
             if self.len < self.out.len() {
                 self.out[self.len] = *b;

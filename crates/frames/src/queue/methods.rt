@@ -40,7 +40,8 @@ impl<'a, T: Identified + Copy> Queue<'a, T> {
         if at < places { at } else { at - places }
     }
 
-    // Adds an element at the end exactly if there is room, and says whether it did.
+    // Adds an element at the end exactly if there is room, and says whether it did. A yes or no, and no `Result`: who is
+    // declined still has the element, which is copied.
     pub fn put(&mut self, x: T) -> bool
         ensures answer { result ≡ accepts (most self.old) (waiting self.old) }
         ensures list { waiting self.new ≡ added (most self.old) (waiting self.old) x }

@@ -1,4 +1,4 @@
-ghost use Rattle.std.specs.Prelude.{◌≡◌, ◌-◌, ◌==◌, [], length, map, position};
+ghost use Rattle.std.specs.Prelude.{◌≡◌, ◌-◌, ◌==◌, [], map, position};
 ghost use Rattle.std.proofs.Common.{arith};
 ghost use Rattle.ports.specs.Mail.{mail_waiting};
 ghost use Rattle.ports.specs.MailLaws.{mail_within};

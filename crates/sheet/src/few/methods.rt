@@ -14,7 +14,7 @@ impl<T: Copy, const N: usize> Few<T, N> {
         }
     }
 
-    // One more at the end, unless there are N.
+    // One more at the end; what comes after the N-th is left away.
     pub fn push(&mut self, item: T)
         ensures { few_items self.new ≡ take N (few_items self.old ++ item ∷ []) }
     {

@@ -1,4 +1,5 @@
-// A slave that the sheet assigns: what it must be, how it is watched and what is written to it.
+// A slave that the sheet assigns: what it must be, how it is watched and what is written to it. The numbers are those of the
+// text, in which 0 stands for any, or for none.
 ghost use Rattle.std.specs.Prelude.{◌≡◌, ◌≤◌, false, ◌&&◌, ◌==◌};
 
 use crate::model::sets::Sets;

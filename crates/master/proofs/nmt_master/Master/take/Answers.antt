@@ -1,3 +1,4 @@
+use Rattle.frames.proofs.Same.{same_value}
 use Rattle.master.specs.Views.{view}
 use Rattle.master.proofs.Calling.{took}
 use Rattle.master.proofs.Kept.{kept}
@@ -8,4 +9,4 @@ returns g c =
     let m = c.self.inside in
     let e = c.take.ensures in
     let t = took (view m.net) (g.P.Port.waiting m.port) _ (g.P.Port.most m.port) _ (g.P.Port.gap m.port) _ (g.P.Port.pause m.port) _ (kept m.net) c.take.result e.answer e.list e.pauses e.most_same e.gap_same _ c.self.view_is in
-    record { answer = t.answer; state = t.state; law = t.law }
+    record { answer = t.answer; whole = same_value; state = t.state; law = t.law }
