@@ -204,8 +204,7 @@ impl Course {
         request_of(c, check).reply(frame).map(Input::Replied)
     }
 
-    // The first of these slaves that is owed something, by its node, and what. A loop, as the definition goes on from slave to
-    // slave; of a `find_map` a proof has the run of an iterator to follow.
+    // The first of these slaves that is owed something, by its node, and what. A loop: as `find_map` the proof did not close.
     fn first_due(&self, slaves: &[Slave], go: bool) -> Option<(u8, Duty)>
         ensures { result ≡ first_due go self.now.table.entries (map slave_of slaves.now) }
     {
@@ -316,8 +315,7 @@ impl Network {
         }
     }
 
-    // The next node after this one that a single reset goes to. Node by node, as the definition goes: as `map` and `find` the
-    // proof did not close.
+    // The next node after this one that a single reset goes to. A loop: as `map` and `find` the proof did not close.
     fn single_after(&self, passed: u8) -> Option<u8>
         ensures { result ≡ single_after (view self.now) (127 - passed) passed }
     {
@@ -337,6 +335,7 @@ impl Network {
         // Who is owed nothing even while Go is owed nothing.
         self.course.first_due(slaves, true)?;
         let go = self.go();
+        // How many are served is counted, as the definition counts them.
         let (before, behind) = slaves.split_at(self.count(Quality::Served));
         self.course
             .first_due(behind, go)
