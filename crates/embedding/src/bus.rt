@@ -14,6 +14,7 @@ pub enum Received {
 #[derive(Clone, Copy, Drop)]
 pub struct Bus {
     next: Option<Received>,
+    // its state as a heartbeat says it
     state: u8,
     since_heartbeat: u8,
 }

@@ -6,7 +6,7 @@ use frames::frame::Frame;
 use std::error::Error;
 use std::fmt;
 
-// A call that can change a master or its port.
+// A call that can change a master or its port: a value and no closure, since a row of them is lent by its caller.
 #[derive(Clone, Copy)]
 pub enum Call {
     // a frame came over the bus

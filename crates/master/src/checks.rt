@@ -42,7 +42,7 @@ fn read_of(node: u8, index: u16, sub: u8) -> Request
     }
 }
 
-// The request of the set at a place; past the last, one that nothing puts.
+// The request of the set at a place; past the last, one that nothing puts, since the definition has a request for every place.
 fn set_request(c: &Slave, place: usize) -> Request
     ensures { result ≡ request_of (slave_of c.now) (Check.Set place) }
 {

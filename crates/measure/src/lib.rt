@@ -1,6 +1,7 @@
 // C functions for a program that measures the library. Nothing is kept between two of them: each makes a master from the
 // text of a sheet, runs the text of a session on it, and then makes calls of one kind. A refused sheet is the empty one.
-// Each answers 0 if there is no memory. Three begin with the same lines: a closure over a master, which has a model, gets no contract.
+// Each answers 0 if there is no memory, as C has no `Option`. Three begin with the same lines: a closure over a master, which has a
+// model, gets no contract.
 #![tactic(auto)]
 
 ghost use Rattle.std.specs.Prelude.{◌≡◌, ◌<◌, ◌≤◌, is_ok, if◌then◌else◌};

@@ -57,6 +57,7 @@ fn hear<W: Write, P: Port>(
     master: &mut Master<P>,
     log: &[u8],
 ) -> anyhow::Result<u64> {
+    // a log without a frame has no time, and any will do
     let (first, name) = start_of(log).unwrap_or((0, &[]));
     let mut clock = Clock::new(first);
     let mut skipped = 0u64;

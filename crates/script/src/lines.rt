@@ -14,7 +14,7 @@ pub enum Line {
     Tick(u32),
 }
 
-// What stands before the '=' of a line.
+// What stands before the '=' of a line: a value and no closure, since the definitions name the keys.
 #[derive(Clone, Copy)]
 pub(crate) enum Key {
     Heard,

@@ -60,6 +60,7 @@ fn outcomes<P: Port>(heap: Global, master: &Master<P>) -> Result<Vec<Outcome>, A
         .map(|slave| Outcome {
             node: slave.node,
             mandatory: slave.mandatory,
+            // a listed slave's node is never refused
             letter: master.result(slave.node).unwrap_or(None),
         })
         .collect(heap)

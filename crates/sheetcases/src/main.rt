@@ -40,6 +40,7 @@ fn run_case<W: Write>(
                 "{name:<26} right slaves={slaves} sets={sets} rewritten={n}"
             )?;
         }
+        // Each program reports a fault in lines of its own.
         Err(fault) => {
             writeln!(
                 out,

@@ -48,6 +48,7 @@ fn print_facts<W: Write>(out: &mut W, sheet: &Sheet) -> anyhow::Result<()> {
     Ok(())
 }
 
+// Each program reports a fault in lines of its own.
 fn print_fault<W: Write>(out: &mut W, fault: &Fault) -> anyhow::Result<()> {
     writeln!(out, "{fault}")?;
     writeln!(
