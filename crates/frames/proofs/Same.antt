@@ -12,7 +12,7 @@ use Rattle.std.proofs.lemmas.Bool.Decides.{Decides-eqb}
 use Rattle.std.proofs.lemmas.Slice.Eq.{slice_eq-Decides}
 use Rattle.std.specs.Cmp.{first_so, second_so}
 use Rattle.std.specs.Cmp.Lexicographic.{pointwise}
-use Rattle.frames.specs.Contents.{content_of, ContentDecides}
+use Rattle.frames.specs.Contents.{ContentDecides}
 use Rattle.frames.specs.Fields.{fields_agree, fields_agree_equiv, FieldsDecide}
 use Rattle.frames.specs.declared.frame.Frame.{Frame}
 

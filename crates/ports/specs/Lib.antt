@@ -1,10 +1,8 @@
 pub mod Meaning
-pub mod Fair
-pub mod FairLaws
 pub mod Gaps
-pub mod TurnCases
 pub mod Turns
 pub mod Mail
+pub mod TurnCases
 pub mod MailLaws
 pub mod Handing
 pub mod Trials

@@ -1,22 +1,23 @@
-ghost use Rattle.std.specs.Prelude.{◌≡◌, ◌+◌, ◌≤◌, length};
-ghost use Rattle.ports.specs.Turns.{count};
+ghost use Rattle.std.specs.Prelude.{◌≡◌, true};
+ghost use Rattle.ports.specs.Turns.{fair};
 
-pub use slot::Slot;
+use frames::frame::Frame;
 
 pub mod methods;
-mod slot;
+
+// A place for a frame. Its turn is 0 if the place is free, and 1 if its frame is the first to leave.
+#[derive(Clone, Copy)]
+pub struct Slot {
+    turn: u8,
+    frame: Frame,
+}
 
 // The mailbox port: three slots, those in use numbered by turn from 1 on. Every frame that leaves lowers the turns of the
 // others, so that no turn passes 3.
 #[derive(Drop)]
 pub struct Mailbox {
-    slots: [Slot; 3],
-
-    // No turn is above 3,
-    ghost turns_ok: { count 0 slots + count 1 slots + count 2 slots + count 3 slots ≡ length slots },
-
-    // no two frames have the same turn, and no turn is left out.
-    ghost first_ok: { count 1 slots ≤ 1 },
-    ghost second_ok: { count 2 slots ≤ count 1 slots },
-    ghost third_ok: { count 3 slots ≤ count 2 slots },
+    a: Slot,
+    b: Slot,
+    c: Slot,
+    ghost turns_ok: { fair a.turn b.turn c.turn ≡ true },
 }

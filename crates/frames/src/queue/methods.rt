@@ -74,10 +74,14 @@ impl<'a, T: Identified + Copy> Queue<'a, T> {
         ensures list { waiting self.new ≡ rest_of (waiting self.old) }
         ensures same { most self.new ≡ most self.old }
     {
-        let first = self.first()?;
-        self.head = self.place(1);
+        if self.len == 0 {
+            return None;
+        }
+        let x = self.slots[self.head];
+        let next = self.head + 1;
+        self.head = if next == self.slots.len() { 0 } else { next };
         self.len -= 1;
-        Some(first)
+        Some(x)
     }
 
     // Whether the first waiting element is an NMT command, which has the identifier 0.

@@ -1,12 +1,21 @@
-ghost use Rattle.std.specs.Prelude.{◌≡◌, ◌-◌, ◌==◌, [], map, position};
+ghost use Rattle.std.specs.Prelude.{◌≡◌, ◌-◌, [], length};
 ghost use Rattle.std.proofs.Common.{arith};
 ghost use Rattle.ports.specs.Mail.{mail_waiting};
 ghost use Rattle.ports.specs.MailLaws.{mail_within};
-ghost use Rattle.ports.specs.Turns.{nearer};
 
 use super::{Mailbox, Slot};
 use crate::port::Port;
 use frames::frame::Frame;
+
+// A slot whose turn is one nearer.
+fn nearer(slot: Slot) -> Slot
+    ensures { (result.turn ≡ slot.turn - 1) × (result.frame ≡ slot.frame) }
+{
+    Slot {
+        turn: slot.turn.saturating_sub(1),
+        frame: slot.frame,
+    }
+}
 
 impl Mailbox {
     // An empty mailbox. The blank frame fills the free slots and never leaves.
@@ -17,24 +26,18 @@ impl Mailbox {
             turn: 0,
             frame: blank,
         };
-        Mailbox { slots: [free; 3] }
+        Mailbox {
+            a: free,
+            b: free,
+            c: free,
+        }
     }
 
-    // The first free slot.
-    fn free(&self) -> Option<usize>
-        ensures { result ≡ position (λ s. s.turn == 0) self.now.slots }
+    // How many frames wait: as many as the highest turn.
+    fn waits(&self) -> u8
+        ensures { result ≡ length (mail_waiting self.now) }
     {
-        self.slots.iter().position(|slot| slot.turn == 0)
-    }
-
-    // The slots with every turn one nearer. A free slot stays free.
-    fn nearer(&self) -> [Slot; 3]
-        ensures { result ≡ map nearer self.now.slots }
-    {
-        self.slots.map(|slot| Slot {
-            turn: slot.turn.saturating_sub(1),
-            frame: slot.frame,
-        })
+        self.a.turn.max(self.b.turn).max(self.c.turn)
     }
 }
 
@@ -52,31 +55,42 @@ impl Port for Mailbox {
     ghost within = { mail_within };
 
     fn room(&self) -> usize {
-        self.slots.iter().filter(|slot| slot.turn == 0).count()
+        3 - self.waits() as usize
     }
 
     fn put(&mut self, frame: Frame) -> bool {
-        let Some(free) = self.free() else {
+        let n = self.waits();
+        if n == 3 {
             return false;
-        };
-        let waits = self.slots.len() - self.room();
-        self.slots[free] = Slot {
-            turn: waits as u8 + 1,
-            frame,
-        };
+        }
+        let last = Slot { turn: n + 1, frame };
+        if self.a.turn == 0 {
+            self.a = last;
+        } else if self.b.turn == 0 {
+            self.b = last;
+        } else {
+            self.c = last;
+        }
         true
     }
 
     fn first(&self) -> Option<Frame> {
-        self.slots
-            .iter()
-            .find(|slot| slot.turn == 1)
-            .map(|slot| slot.frame)
+        if self.a.turn == 1 {
+            Some(self.a.frame)
+        } else if self.b.turn == 1 {
+            Some(self.b.frame)
+        } else if self.c.turn == 1 {
+            Some(self.c.frame)
+        } else {
+            None
+        }
     }
 
     fn take(&mut self) -> Option<Frame> {
         let first = self.first();
-        self.slots = self.nearer();
+        self.a = nearer(self.a);
+        self.b = nearer(self.b);
+        self.c = nearer(self.c);
         first
     }
 

@@ -1,9 +1,15 @@
-use Rattle.std.proofs.Common.{sym, ◌∙◌}
-use Rattle.frames.proofs.Rings.{some_turned, rest_turned}
+use Rattle.std.proofs.Common.{sym, refl, inl, inr, arith}
+use Rattle.frames.proofs.Rings.{first_turned, rest_turned}
 use Rattle.frames.proofs.queue.Queue.take.Goals as goal
+use Rattle.frames.proofs.queue.Queue.take.Goals.{then-next-self, else-next-self}
 
-pub returns-clause-list : goal.returns-clause-list
-returns-clause-list g c =
+pub returns : goal.returns
+returns g c =
     let s = c.args.self.now in
-    let some = some_turned s.slots.now s.head s.len c.in_ok-first.first (sym c.first.ensures ∙ c.in_ok-first.was) in
-    rest_turned s.slots.now s.head s.len c.in_ok-first.first s.head_ok some s.len_ok c.place-self.result c.place-self.ensures.within c.place-self.ensures.round
+    record {
+      answer = sym (first_turned s.slots.now s.head s.len c.index-self-self.result s.head_ok (omega arith));
+      list = rest_turned s.slots.now s.head s.len c.index-self-self.result s.head_ok (omega arith) s.len_ok c.if-next-self.self
+          (elim c.if-next-self.branch [ then-next-self w ↦ omega (arith, w.self-is, s.head_ok) | else-next-self w ↦ omega (arith, w.self-is, s.head_ok) ])
+          (elim c.if-next-self.branch [ then-next-self w ↦ inr (omega (arith, w.self-is)) | else-next-self w ↦ inl (omega (arith, w.self-is)) ]);
+      same = refl;
+    }

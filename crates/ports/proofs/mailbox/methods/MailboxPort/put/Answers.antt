@@ -1,32 +1,24 @@
-use Rattle.std.specs.Prelude.{◌≡◌, ◌∷◌, ◌++◌, []}
-use Rattle.std.proofs.Common.{length, sym, ◌∙◌, rules, arith}
-use Rattle.std.proofs.lemmas.Bool.{cond_below}
-use Rattle.std.proofs.lemmas.Grind.{common_steps}
-use Rattle.ports.specs.Mail.{mail_waiting}
-use Rattle.ports.proofs.MailSteps.{placed, all_taken}
+use Rattle.std.proofs.Common.{◌≡◌, max, sym, refl, ◌∙◌, rules}
+use Rattle.ports.specs.MailLaws.{highest}
+use Rattle.ports.proofs.MailSteps.{third_fair, third_added}
 use Rattle.ports.proofs.mailbox.methods.MailboxPort.put.Goals as goal
 
-full : (c : goal.In_default) → length (mail_waiting c.args.self.now) ≡ 3
-full c = all_taken c.args.self.now (search rules) (sym c.free.ensures ∙ c.in_default.is)
+pub invariant_of-self-else-self-eq0-2 : goal.invariant_of-self-else-self-eq0-2
+invariant_of-self-else-self-eq0-2 c =
+    let m = c.args.self.now in
+    let n : max (max m.a.turn m.b.turn) m.c.turn ≡ c.waits-n.result =
+    highest m.a.turn m.b.turn m.c.turn m.turns_ok m.a.frame m.b.frame m.c.frame ∙ sym c.waits-n.ensures in
+    record { turns_ok = rw n at (third_fair m.a.turn m.b.turn m.c.turn m.turns_ok c.if-self-eq0.false c.if-self-eq0-2.false (λ e. c.if-n-eq3.false (sym n ∙ e))) }
 
-pub returns-in_default-clause-answer : goal.returns-in_default-clause-answer
-returns-in_default-clause-answer c = let all = full c in grind (arith, common_steps)
-
-pub returns-in_default-clause-list : goal.returns-in_default-clause-list
-returns-in_default-clause-list c = let all = full c in grind (arith, common_steps)
-
-pub invariant_of-self : goal.invariant_of-self
-invariant_of-self c =
-    let put = placed c.args.self.now (search rules) c.in-Some.free (sym c.free.ensures ∙ c.in-Some.is) _ c.room-waits.ensures c.args.frame in
-    record { turns_ok = put.fair.turns; first_ok = put.fair.first; second_ok = put.fair.second; third_ok = put.fair.third }
-
-pub returns-clause-answer : goal.returns-clause-answer
-returns-clause-answer c =
-    let put = placed c.args.self.now (search rules) c.in-Some.free (sym c.free.ensures ∙ c.in-Some.is) _ c.room-waits.ensures c.args.frame in
-    grind (arith, common_steps)
-
-pub returns-clause-list : goal.returns-clause-list
-returns-clause-list c =
-    let waiting = mail_waiting c.args.self.now in
-    let put = placed c.args.self.now (search rules) c.in-Some.free (sym c.free.ensures ∙ c.in-Some.is) _ c.room-waits.ensures c.args.frame in
-    put.last ∙ cond_below (length waiting) 3 (waiting ++ c.args.frame ∷ []) waiting put.room
+pub returns-else-self-eq0-2 : goal.returns-else-self-eq0-2
+returns-else-self-eq0-2 c =
+    let m = c.args.self.now in
+    let n : max (max m.a.turn m.b.turn) m.c.turn ≡ c.waits-n.result =
+    highest m.a.turn m.b.turn m.c.turn m.turns_ok m.a.frame m.b.frame m.c.frame ∙ sym c.waits-n.ensures in
+    record {
+      answer = search rules;
+      list = rw n at (third_added m.a.turn m.b.turn m.c.turn m.turns_ok c.if-self-eq0.false c.if-self-eq0-2.false (λ e. c.if-n-eq3.false (sym n ∙ e)) m.a.frame m.b.frame m.c.frame c.args.frame);
+      most_same = refl;
+      gap_same = refl;
+      pause_same = refl;
+    }

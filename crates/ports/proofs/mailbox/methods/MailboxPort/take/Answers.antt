@@ -1,16 +1,23 @@
-use Rattle.std.proofs.Common.{sym, ap, ◌∙◌}
-use Rattle.ports.specs.Turns.{ordered}
+use Rattle.std.proofs.Common.{sym, refl, ◌∙◌}
 use Rattle.ports.specs.Mail.{mail_waiting}
-use Rattle.ports.proofs.MailSteps.{Fair, fair_of, nearer_fair, nearer_rest, kept_rest}
+use Rattle.ports.proofs.MailSteps.{nearer_fair, nearer_rest, given_first, kept_rest, paused_none}
 use Rattle.ports.proofs.mailbox.methods.MailboxPort.take.Goals as goal
 
 pub invariant_of-self : goal.invariant_of-self
 invariant_of-self c =
     let m = c.args.self.now in
-    let fair : Fair c.nearer-self.result = rw c.nearer-self.ensures (nearer_fair m.slots (fair_of m)) in
-    record { turns_ok = fair.turns; first_ok = fair.first; second_ok = fair.second; third_ok = fair.third }
+    record { turns_ok = rw (c.nearer-self.ensures.0, c.nearer-self-2.ensures.0, c.nearer-self-3.ensures.0) (nearer_fair m.a.turn m.b.turn m.c.turn m.turns_ok) }
 
-pub returns-clause-list : goal.returns-clause-list
-returns-clause-list c =
+pub returns : goal.returns
+returns c =
     let m = c.args.self.now in
-    ap ordered c.nearer-self.ensures ∙ nearer_rest m.slots (fair_of m) ∙ sym (kept_rest (mail_waiting m))
+    let a = c.nearer-self.ensures in
+    let b = c.nearer-self-2.ensures in
+    let d = c.nearer-self-3.ensures in
+    record {
+      answer = c.first-first.ensures ∙ sym (given_first (mail_waiting m));
+      list = simp (a.0, a.1, b.0, b.1, d.0, d.1) (nearer_rest m.a.turn m.b.turn m.c.turn m.turns_ok m.a.frame m.b.frame m.c.frame ∙ sym (kept_rest (mail_waiting m)));
+      pauses = paused_none (mail_waiting m);
+      most_same = refl;
+      gap_same = refl;
+    }
