@@ -1,8 +1,11 @@
 pub mod Codecs
 pub mod Cutting
 pub mod Exactness
+pub mod Joining
 pub mod Judging
 pub mod Keeping
+pub mod Lengths
+pub mod LineReads
 pub mod Loops
 pub mod Numbers
 pub mod RoundTrip

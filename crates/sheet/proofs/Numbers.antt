@@ -56,7 +56,7 @@ pub value_push : (n : ℕ) (xs : List ℕ) (c : ℕ) → value_on n (xs ++ c ∷
 value_push n [] c = refl
 value_push n (x ∷ xs) c = value_push (n * 10 + (x - 48)) xs c
 
-value_ge : (n : ℕ) (xs : List ℕ) → n ≤ value_on n xs
+pub value_ge : (n : ℕ) (xs : List ℕ) → n ≤ value_on n xs
 value_ge n [] = omega arith
 value_ge n (x ∷ xs) = let h = value_ge (n * 10 + (x - 48)) xs in omega arith
 

@@ -4,6 +4,9 @@ ghost use Rattle.sheet.specs.Decimal.{digit_of, number_of, NumberLaws};
 
 use crate::faults::DigitsFault;
 
+// No number has more digits.
+const MOST_DIGITS: usize = 10;
+
 fn digit(b: u8, line: usize) -> Result<u32, DigitsFault>
     ensures { result ≡ digit_of line b }
 {
@@ -24,6 +27,10 @@ pub fn number(digits: &[u8], line: usize) -> Result<u32, DigitsFault>
     ensures laws { NumberLaws }
 {
     let fault = DigitsFault { line };
+    // Longer texts are refused at once.
+    if digits.len() > MOST_DIGITS {
+        return Err(fault);
+    }
     if let [] | [b'0', _, ..] = digits {
         return Err(fault);
     }

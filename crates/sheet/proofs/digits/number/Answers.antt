@@ -3,8 +3,12 @@ use Rattle.std.proofs.lemmas.List.{drop_all}
 use Rattle.std.proofs.lemmas.Result.{err_from_is_err_and}
 use Rattle.std.specs.Str.{all_ascii_digits}
 use Rattle.sheet.specs.Decimal.{value_on}
+use Rattle.sheet.proofs.Joining.{number_long}
 use Rattle.sheet.proofs.Numbers.{digit_is, number_over, number_is}
 use Rattle.sheet.proofs.digits.number.Goals as goal
+
+pub returns-then-digits-gt-MOST_DIGITS-clause-value : goal.returns-then-digits-gt-MOST_DIGITS-clause-value
+returns-then-digits-gt-MOST_DIGITS-clause-value c = number_long _ _ c.if-digits-gt-MOST_DIGITS.true
 
 pub returns-in_err-n-clause-value : goal.returns-in_err-n-clause-value
 returns-in_err-n-clause-value c =
