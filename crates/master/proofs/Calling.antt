@@ -3,12 +3,10 @@ use Rattle.std.proofs.Common.{◌≡◌, ℕ, ◌-◌, ◌<◌, ◌≤◌, Bool,
 use mathlib.Core.List.{map-append}
 use lib.ListN.{length-map}
 use Rattle.std.specs.Option.{option_map}
-use Rattle.std.specs.Result.{MatchResult, is_ok}
 use Rattle.std.proofs.lemmas.Bool.{cases_Bool, cond-true, cond-false, le-leb, leb-true, and_parts}
-use Rattle.frames.specs.Contents.{Content, content_of, Made}
+use Rattle.frames.specs.Contents.{Content, content_of}
 use Rattle.frames.specs.Lists.{accepts, added}
 use Rattle.frames.specs.declared.frame.Frame.{Frame}
-use Rattle.frames.specs.declared.refusal.Refusal.{Refusal as Unmade}
 use Rattle.ports.specs.Meaning.{given, kept, paused, is_command, held}
 use Rattle.sheet.specs.Rules.{Keeps}
 use Rattle.master.specs.Masters.{is_frame, content_by, use_of, hearing, hearing_steps, worked_by}
@@ -67,22 +65,6 @@ frame_fits id bs a b = ap (λ x. x && leb (length bs) 8) (le-leb id 2047 a) ∙ 
 -- no step more: the same trace leads there
 stays : (m : Machine) → Keeps m.net.lines → Carries m [] m
 stays m k ls p tr g = let e = sym (append-nil tr) in (subst (λ z. LeadsFrom ls p z m) e g, subst (λ z. StandsFrom ls p.waiting z m.port.waiting (going m.net)) e (tells m k ls p tr g))
-
--- what is known of identifier and bytes once a frame is made of them or not, and a refusal is turned into another error
-module _ (id : ℕ) (bs : List ℕ) (r : Result Frame Unmade) (s : Result Frame Refusal) (m : Made id bs r) (same : is_ok s ≡ is_ok r) where
-  pub unmade : (e : Refusal) → s ≡ Err e → id ≤ 2047 → 8 < length bs
-  unmade e is = by r m (sym same ∙ ap is_ok is)
-    where
-      by : (x : Result Frame Unmade) → Made id bs x → is_ok x ≡ false → id ≤ 2047 → 8 < length bs
-      by (Ok f) k h = absurd (let z : ◌≡◌ {A = Bool} true false = h in let y : ◌≡◌ {A = ℕ} 0 1 = cc in omega arith)
-      by (Err x) k h = k.1
-
-  pub made : (Q : Unmade → Type 0) → MatchResult r (λ x. s ≡ Ok x) Q → (f : Frame) → s ≡ Ok f → (id ≤ 2047) × ((length bs ≤ 8) × (content_of f ≡ content_by id bs))
-  made Q k f is = by r m k (sym same ∙ ap is_ok is)
-    where
-      by : (x : Result Frame Unmade) → Made id bs x → MatchResult x (λ y. s ≡ Ok y) Q → is_ok x ≡ true → (id ≤ 2047) × ((length bs ≤ 8) × (content_of f ≡ content_by id bs))
-      by (Ok g) a b h = let e : g ≡ f = cc in (a.0, (a.1, ap content_of (sym e) ∙ a.2))
-      by (Err x) a b h = absurd (let z : ◌≡◌ {A = Bool} false true = h in let y : ◌≡◌ {A = ℕ} 0 1 = cc in omega arith)
 
 pub not_heard : (id : ℕ) (bs : List ℕ) (m : Machine) → Keeps m.net.lines → (id ≤ 2047 → 8 < length bs) → (now : Machine) → m ≡ now → HeardAs id bs now (Err refusal.NoFrame) m
 not_heard id bs m k h now is =

@@ -8,6 +8,7 @@ use Rattle.master.specs.FromPort.{fresh_machine}
 use Rattle.master.specs.Network.{State, heard_by, result_of}
 use Rattle.master.specs.Session.{PortState, Machine, with_net, Call, hear, pass, work, take, placed, idle, refused, Step, hears}
 use Rattle.master.specs.Session.{Worked as Outcome}
+use Rattle.master.specs.Views.{view}
 use Rattle.master.specs.declared.calls.Call.{Call as Made}
 use Rattle.master.specs.declared.calls.Call.TheVariants as call
 use Rattle.master.specs.declared.calls.Refusal.{Refusal}
@@ -16,11 +17,16 @@ use Rattle.master.specs.declared.calls.Use.{Use}
 use Rattle.master.specs.declared.calls.Use.TheVariants.{Used, Unused}
 use Rattle.master.specs.declared.calls.Worked.{Worked}
 use Rattle.master.specs.declared.calls.Worked.TheVariants.{Put, NothingDue}
+use Rattle.master.specs.declared.nmt_master.Master.{Master}
 use Rattle.master.specs.declared.types.Letter.{Letter}
 
 -- A port by its four parts: what waits in it, how many can, the gap and the pause. Frames stand by their contents.
 abbrev pub port_by : {P : Type 0} → Ghosts P → P → PortState
 port_by is p = record { waiting = map content_of (is.waiting p); most = is.most p; gap = is.gap p; pause = is.pause p }
+
+-- A master with its port as a plain value. The hints of where a slave stands on the sheet are no part of it.
+abbrev pub machine_by : {P : Type 0} → Ghosts P → Master P → Machine
+machine_by is m = record { net = view m.net; port = port_by is m.port }
 
 -- A fresh master of a sheet and a port, whatever waits in it.
 abbrev pub begun : {P : Type 0} → Ghosts P → Sheet → P → Machine

@@ -6,10 +6,8 @@ ghost use Rattle.sheet.specs.Sheets.{lines_of};
 ghost use Rattle.sheet.specs.Views.{slave_of};
 ghost use Rattle.master.specs.Network.{fresh_state, is_running, is_halted, slave_by, holds, count_in, counted, going, result_of, tries_anew, brought_by, step_in, ticked, input_of, heard_by, sweeps_to, single_after, first_due, next_due, starts_all, duty_plan, single_plan, sweep_plan, planned, nmt_to, duty_content, plan_content, with_entries, applied_to, change_for, served, carried_out};
 ghost use Rattle.master.specs.Table.{entry_of, applied_all};
-ghost use Rattle.master.specs.Masters.{use_of};
 ghost use Rattle.master.specs.Views.{view, state_of, listed, slave_seen};
 
-use crate::calls::Use;
 use crate::checks::request_of;
 use crate::table::Table;
 use crate::types::{
@@ -284,22 +282,22 @@ impl Network {
     }
 
     // A frame heard; answers whether it was used.
-    pub(crate) fn heard(&mut self, frame: &Frame) -> Use
-        ensures used { result ≡ use_of (heard_by (content_of frame.now) (view self.old)).0 }
+    pub(crate) fn heard(&mut self, frame: &Frame) -> bool
+        ensures used { result ≡ (heard_by (content_of frame.now) (view self.old)).0 }
         ensures state { view self.new ≡ (heard_by (content_of frame.now) (view self.old)).1 }
     {
         if !self.is_running() {
-            return Use::Unused;
+            return false;
         }
         let roll = &self.roll;
         let Some(c) = roll.slave(frame.node()) else {
-            return Use::Unused;
+            return false;
         };
         let Some(input) = self.course.input(c, frame) else {
-            return Use::Unused;
+            return false;
         };
         self.course.advance(&roll.sheet, c, input);
-        Use::Used
+        true
     }
 
     // Whether a single reset goes to this node.

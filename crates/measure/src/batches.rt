@@ -1,11 +1,10 @@
 // Many calls of one kind.
-ghost use Rattle.std.specs.Prelude.{◌≡◌, ◌≤◌, is_ok, IfSome, if◌then◌else◌};
+ghost use Rattle.std.specs.Prelude.{◌≡◌, ◌≤◌, is_ok, if◌then◌else◌};
 ghost use Rattle.sheet.specs.Format.{reading};
 
 use master::{Master, Use, Worked};
 use ports::port::Port;
-use sheet::Sheet;
-use std::alloc::{AllocError, Global};
+use sheet::{Few, Sheet};
 
 pub(crate) fn ticks<P: Port>(master: &mut Master<P>, count: u32) -> u32
     ensures { result ≤ count }
@@ -16,33 +15,27 @@ pub(crate) fn ticks<P: Port>(master: &mut Master<P>, count: u32) -> u32
     if master.go() { count } else { 0 }
 }
 
-// The identifiers of the listed slaves' heartbeats.
-fn heartbeat_ids<P: Port>(heap: Global, master: &Master<P>) -> Result<Vec<u32>, AllocError> {
-    master
-        .sheet()
-        .slaves
-        .iter()
-        .map(|slave| 0x700 + u32::from(slave.node))
-        .collect(heap)
+// The identifiers of the listed slaves' heartbeats. A sheet lists at most 126.
+fn heartbeat_ids<P: Port>(master: &Master<P>) -> Few<u32, 126> {
+    let mut ids = Few::new(0);
+    for slave in &master.sheet().slaves {
+        ids.push(0x700 + u32::from(slave.node));
+    }
+    ids
 }
 
-// The heartbeats of the listed slaves in turn, each with these bytes. None if there is no memory.
-pub(crate) fn heartbeats<P: Port>(
-    heap: Global,
-    master: &mut Master<P>,
-    bytes: &[u8],
-    count: u32,
-) -> Option<u32>
-    ensures { IfSome result (λ n. n ≤ count) }
+// The heartbeats of the listed slaves in turn, each with these bytes.
+pub(crate) fn heartbeats<P: Port>(master: &mut Master<P>, bytes: &[u8], count: u32) -> u32
+    ensures { result ≤ count }
 {
-    let ids = heartbeat_ids(heap, master).ok()?;
-    let used = ids
+    let used = heartbeat_ids(master)
+        .as_slice()
         .iter()
         .cycle()
         .take(count as usize)
         .filter(|id| master.heard(**id, bytes) == Ok(Use::Used))
         .count();
-    Some(used as u32)
+    used as u32
 }
 
 pub(crate) fn works<P: Port>(master: &mut Master<P>, count: u32) -> u32

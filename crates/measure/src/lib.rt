@@ -1,7 +1,6 @@
 // C functions for a program that measures the library. Nothing is kept between two of them: each makes a master from the
 // text of a sheet, runs the text of a session on it, and then makes calls of one kind. A refused sheet is the empty one.
-// Each answers 0 if there is no memory, as C has no `Option`. Three begin with the same lines: a closure over a master, which has a
-// model, gets no contract.
+// Each answers 0 if there is no memory, as C has no `Option`.
 #![tactic(auto)]
 
 ghost use Rattle.std.specs.Prelude.{◌≡◌, ◌<◌, ◌≤◌, is_ok, if◌then◌else◌};
@@ -12,7 +11,7 @@ mod prefix;
 
 use batches::{heartbeats, readings, ticks, works};
 use prefix::after_session;
-use script::{Style, ring_places, run};
+use script::{Style, run};
 use sheet::Sheet;
 use std::alloc::Global;
 
@@ -21,11 +20,7 @@ use std::alloc::Global;
 pub extern "C" fn measure_ticks(heap: Global, sheet: &[u8], session: &[u8], count: u32) -> u32
     ensures { result ≤ count }
 {
-    let mut places = ring_places();
-    let Some(mut master) = after_session(heap, sheet, session, &mut places) else {
-        return 0;
-    };
-    ticks(&mut master, count)
+    after_session(heap, sheet, session, |master| ticks(master, count))
 }
 
 // How many of the heartbeats with these bytes, of the listed slaves in turn, were used.
@@ -39,11 +34,12 @@ pub extern "C" fn measure_heartbeats(
 ) -> u32
     ensures { result ≤ count }
 {
-    let mut places = ring_places();
-    let Some(mut master) = after_session(heap, sheet, session, &mut places) else {
-        return 0;
-    };
-    heartbeats(heap, &mut master, bytes, count).unwrap_or(0)
+    after_session(
+        heap,
+        sheet,
+        session,
+        |master| heartbeats(master, bytes, count),
+    )
 }
 
 // How many of the works found nothing due.
@@ -51,11 +47,7 @@ pub extern "C" fn measure_heartbeats(
 pub extern "C" fn measure_works(heap: Global, sheet: &[u8], session: &[u8], count: u32) -> u32
     ensures { result ≤ count }
 {
-    let mut places = ring_places();
-    let Some(mut master) = after_session(heap, sheet, session, &mut places) else {
-        return 0;
-    };
-    works(&mut master, count)
+    after_session(heap, sheet, session, |master| works(master, count))
 }
 
 // How many of the readings of a sheet's text found no fault: all of them or none.

@@ -1,3 +1,4 @@
+pub mod Commas
 pub mod Keeping
 pub mod Parting
 pub mod Playing

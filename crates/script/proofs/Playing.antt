@@ -25,6 +25,13 @@ skipping : (o : Option Order) (os : List Order) (m : Machine) → fold (λ m o. 
 skipping None os m = refl
 skipping (Some o) os m = refl
 
+-- the line that was read is done, or skipped
+pub plays_on : (t : List ℕ) (r : List ℕ × List ℕ) (q : Option Order) (m o : Machine) → 0 < length t → r ≡ first_line t → q ≡ line_in r.0 → o ≡ done_line q m → played r.1 o ≡ played t m
+plays_on t r q m o some e f g =
+    ap (played r.1) (g ∙ ap (λ x. done_line x m) f)
+    ∙ skipping (line_in r.0) (filter_map line_in (lines r.1)) m
+    ∙ ap (λ ts. done_lines ts m) (ap (λ (z : List ℕ × List ℕ). z.0 ∷ lines z.1) e ∙ sym (line_first t some))
+
 within : (k : ℕ) (t : List ℕ) (m : Machine) → length t ≤ k → played_within k t m ≡ played t m
 within zero [] m h = refl
 within zero (c ∷ cs) m h = absurd (omega arith)
@@ -36,8 +43,7 @@ within (suc k) (c ∷ cs) m h =
     let less = first_shorter t some in
     cond-false _ _ _ (ne_eqb (length t) 0 (λ e. omega arith))
     ∙ within k r.1 (done_line (line_in r.0) m) (omega arith)
-    ∙ skipping (line_in r.0) (filter_map line_in (lines r.1)) m
-    ∙ ap (λ ts. done_lines ts m) (sym (line_first t some))
+    ∙ plays_on t r (line_in r.0) m (done_line (line_in r.0) m) some refl refl refl
 
 pub line_by_line : LineByLine
 line_by_line t m = sym (within (length t) t m (omega arith))

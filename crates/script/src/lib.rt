@@ -2,6 +2,7 @@
 #![tactic(auto)]
 
 pub mod lines;
+pub mod message;
 mod notes;
 mod reader;
 mod report;
@@ -10,10 +11,11 @@ mod session;
 pub mod style;
 pub mod text;
 
-pub use lines::{Data, Line};
+pub use lines::Line;
+pub use message::Data;
 pub use reader::{next_line, read_line};
 pub use ring::{RingMaster, ring_master, ring_places};
-pub use session::{play, print_report, run};
+pub use session::{play, play_silently, print_report, run};
 pub use sheet::cut;
 pub use style::{Style, UnknownStyle};
 pub use text::Lines;

@@ -1,8 +1,5 @@
 // What a line of a session asks for.
-use sheet::Few;
-
-// The bytes of a frame that a line says was heard. No frame has more than eight; nine stand for too many.
-pub type Data = Few<u8, 9>;
+pub use crate::message::Data;
 
 #[derive(Clone, Copy)]
 pub enum Line {

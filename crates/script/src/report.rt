@@ -39,6 +39,11 @@ impl fmt::Display for Output<'_> {
     }
 }
 
+// Who is told of each line of a run.
+pub(crate) trait Listener {
+    fn line(&mut self, line: Output<'_>) -> anyhow::Result<()>;
+}
+
 // Where the lines go, and whether each has its note.
 #[derive(Drop)]
 pub(crate) struct Printer<'a, W> {
@@ -47,8 +52,8 @@ pub(crate) struct Printer<'a, W> {
     pub(crate) out: &'a mut W,
 }
 
-impl<W: Write> Printer<'_, W> {
-    pub(crate) fn line(&mut self, line: Output<'_>) -> anyhow::Result<()> {
+impl<W: Write> Listener for Printer<'_, W> {
+    fn line(&mut self, line: Output<'_>) -> anyhow::Result<()> {
         match self.style {
             Style::Plain => writeln!(self.out, "{line}")?,
             Style::Explained => {
@@ -58,12 +63,25 @@ impl<W: Write> Printer<'_, W> {
         }
         Ok(())
     }
+}
 
-    // The line of a call that was refused, if it was.
-    pub(crate) fn refusal<T: Copy>(&mut self, answer: Result<T, Refusal>) -> anyhow::Result<()> {
-        match answer {
-            Ok(_) => Ok(()),
-            Err(refusal) => self.line(Output::Refused(refusal)),
-        }
+// Nobody is told, and no line is made.
+#[derive(Clone, Copy)]
+pub(crate) struct Nobody;
+
+impl Listener for Nobody {
+    fn line(&mut self, _: Output<'_>) -> anyhow::Result<()> {
+        Ok(())
+    }
+}
+
+// The line of a call that was refused, if it was.
+pub(crate) fn refusal<L: Listener, T: Copy>(
+    listener: &mut L,
+    answer: Result<T, Refusal>,
+) -> anyhow::Result<()> {
+    match answer {
+        Ok(_) => Ok(()),
+        Err(refusal) => listener.line(Output::Refused(refusal)),
     }
 }

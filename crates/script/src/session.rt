@@ -1,15 +1,16 @@
 // A session, run on a fresh master by the single calls.
 ghost use Rattle.std.specs.Prelude.{◌≡◌, OnOk};
+ghost use Rattle.master.specs.Masters.{machine_by};
+ghost use Rattle.master.specs.Session.{Machine};
 ghost use Rattle.script.specs.Plays.{times, done, played, LineByLine};
 ghost use Rattle.script.specs.Views.{line_of};
 
 use crate::lines::Line;
 use crate::notes::Outcome;
-use crate::reader::read_line;
-use crate::report::{Output, Printer};
+use crate::reader::{next_line, read_line};
+use crate::report::{Listener, Nobody, Output, Printer, refusal};
 use crate::ring::{ring_master, ring_places};
 use crate::style::Style;
-use crate::text::Lines;
 use master::Master;
 use ports::port::Port;
 use sheet::Sheet;
@@ -17,13 +18,13 @@ use std::alloc::{AllocError, Global};
 use std::io::Write;
 
 // Makes a call so many times, unless one of them ends in an error.
-fn repeat<M, F: FnMut(&mut M) -> anyhow::Result<()>>(
-    master: &mut M,
+fn repeat<P: Port, F: FnMut(&mut Master<P>) -> anyhow::Result<()>>(
+    master: &mut Master<P>,
     count: u32,
     mut call: F,
 ) -> anyhow::Result<()>
     requires { (f : F) (m : _) → F.pre f m }
-    ensures { (step : M → M) → ((f : F) (m : _) (r : _) (n : _) (g : F) → F.step f m r n g → OnOk r (n.now ≡ step m.now)) → OnOk result (master.new ≡ times step count master.old) }
+    ensures { (step : Machine → Machine) → ((f : F) (m : _) (r : _) (n : _) (g : F) → F.step f m r n g → OnOk r (machine_by P.Port n.now ≡ step (machine_by P.Port m.now))) → OnOk result (machine_by P.Port master.new ≡ times step count (machine_by P.Port master.old)) }
 {
     for _ in 0..count {
         call(master)?;
@@ -32,18 +33,18 @@ fn repeat<M, F: FnMut(&mut M) -> anyhow::Result<()>>(
 }
 
 // The calls that a line asks for. A refused call does not end a count.
-fn carry_out<W: Write, P: Port>(
-    printer: &mut Printer<'_, W>,
+fn carry_out<L: Listener, P: Port>(
+    listener: &mut L,
     master: &mut Master<P>,
     line: Line,
 ) -> anyhow::Result<()>
-    ensures { OnOk result (master.new ≡ done (line_of line) master.old) }
+    ensures { OnOk result (machine_by P.Port master.new ≡ done (line_of line) (machine_by P.Port master.old)) }
 {
     match line {
-        Line::Heard { id, data } => printer.refusal(master.heard(id, data.as_slice())),
-        Line::Work(count) => repeat(master, count, |master| printer.refusal(master.work())),
+        Line::Heard { id, data } => refusal(listener, master.heard(id, data.as_slice())),
+        Line::Work(count) => repeat(master, count, |master| refusal(listener, master.work())),
         Line::Take(count) => repeat(master, count, |master| {
-            printer.line(Output::Out(master.take()))
+            listener.line(Output::Out(master.take()))
         }),
         Line::Tick(count) => repeat(master, count, |master| {
             master.tick();
@@ -85,6 +86,25 @@ pub fn print_report<W: Write, P: Port>(
     Ok(())
 }
 
+// Makes the calls of a session's text on a master, and tells what was taken and refused.
+fn listen<L: Listener, P: Port>(
+    listener: &mut L,
+    master: &mut Master<P>,
+    session: &[u8],
+) -> anyhow::Result<()>
+    ensures { OnOk result (machine_by P.Port master.new ≡ played session.now (machine_by P.Port master.old)) }
+{
+    let mut rest = session;
+    while !rest.is_empty() {
+        let (text, more) = next_line(rest);
+        if let Some(line) = read_line(text) {
+            carry_out(listener, master, line)?;
+        }
+        rest = more;
+    }
+    Ok(())
+}
+
 // Makes the calls of a session's text on a master, and prints what was taken and refused. All lines are done, unless
 // printing fails.
 #[tactic(auto, using(crate::proofs::Playing::line_by_line))]
@@ -95,16 +115,17 @@ pub fn play<W: Write, P: Port>(
     master: &mut Master<P>,
     session: &[u8],
 ) -> anyhow::Result<()>
-    ensures played { OnOk result (master.new ≡ played session.now master.old) }
+    ensures played { OnOk result (machine_by P.Port master.new ≡ played session.now (machine_by P.Port master.old)) }
     ensures law { LineByLine }
 {
-    let mut printer = Printer { heap, style, out };
-    for text in Lines::new(session) {
-        if let Some(line) = read_line(text) {
-            carry_out(&mut printer, master, line)?;
-        }
-    }
-    Ok(())
+    listen(&mut Printer { heap, style, out }, master, session)
+}
+
+// The same, with nothing printed.
+pub fn play_silently<P: Port>(master: &mut Master<P>, session: &[u8]) -> anyhow::Result<()>
+    ensures { OnOk result (machine_by P.Port master.new ≡ played session.now (machine_by P.Port master.old)) }
+{
+    listen(&mut Nobody, master, session)
 }
 
 // Runs a session's text with a sheet's text, and prints what was taken and refused, then Go, halted and the slaves'

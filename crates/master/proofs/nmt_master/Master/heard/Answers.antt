@@ -1,18 +1,25 @@
+use Rattle.std.proofs.Common.{Ok, refl, sym, subst}
+use Rattle.master.specs.Masters.{port_by, machine_by}
+use Rattle.master.specs.Session.{Machine}
 use Rattle.master.specs.Views.{view}
-use Rattle.master.proofs.Calling.{made, unmade, not_heard, heard_frame}
+use Rattle.master.proofs.Calling.{HeardAs, not_heard, heard_frame}
 use Rattle.master.proofs.Kept.{kept}
 use Rattle.master.proofs.nmt_master.Master.heard.Goals as goal
 
-pub returns-in_err-frame-clause-law : goal.returns-in_err-frame-clause-law
-returns-in_err-frame-clause-law g c =
-    let m = c.self.inside in
-    let no = unmade c.args.id c.args.bytes.now c.new.result c.map_err.result c.new.ensures c.map_err.ensures.variant _ c.in_err-frame.was in
-    let h = not_heard c.args.id c.args.bytes.now _ (kept m.net) no _ c.self.view_is in
-    h.law
+pub returns-in_default : goal.returns-in_default
+returns-in_default g c =
+    let m = c.args.self.now in
+    let at : Machine = machine_by g.P.Port m in
+    let h = not_heard c.args.id c.args.bytes.now at (kept m.net) c.in_default.ensures.1 at refl in
+    record { answer = h.answer; state = h.state; law = h.law }
 
 pub returns : goal.returns
 returns g c =
-    let m = c.self.inside in
-    let yes = made c.args.id c.args.bytes.now c.new.result c.map_err.result c.new.ensures c.map_err.ensures.variant _ c.map_err.ensures.cases c.in_ok-frame.frame c.in_ok-frame.was in
-    let h = heard_frame c.in_ok-frame.frame c.args.id c.args.bytes.now _ (kept m.net) yes.0 yes.1.0 yes.1.1 c.heard.result (view c.heard.new.self) c.heard.ensures.used c.heard.ensures.state _ c.self.view_is in
+    let m = c.args.self.now in
+    let at : Machine = machine_by g.P.Port m in
+    let made = c.in-Ok.ensures in
+    let e = c.hear.ensures in
+    let s = view c.hear.new.self.net in
+    let h = subst (λ p. HeardAs c.args.id c.args.bytes.now at (Ok c.hear.result) (record { net = s; port = port_by g.P.Port p })) (sym e.port)
+    (heard_frame c.in-Ok.frame c.args.id c.args.bytes.now at (kept m.net) made.0 made.1 made.2 c.hear.result s e.answer e.net at refl) in
     record { answer = h.answer; state = h.state; law = h.law }

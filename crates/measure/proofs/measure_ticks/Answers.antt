@@ -1,0 +1,5 @@
+use Rattle.std.proofs.Common.{rules}
+use Rattle.measure.proofs.measure_ticks.Goals as goal
+
+pub returns : goal.returns
+returns c = c.after_session.ensures c.args.count (λ m r n p. search rules)
